@@ -1,1 +1,6 @@
 -- The definitions of this crate.
+pub mod Range
+pub mod Limits
+pub mod Status
+pub mod Outside
+pub mod Memory

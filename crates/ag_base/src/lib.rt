@@ -5,11 +5,24 @@
 //! give and take exactly the bytes that they were made with. Start at `outside`.
 #![tactic(auto)]
 
+pub mod limits;
 pub mod list;
+pub mod memory;
+pub mod outside;
+pub mod place;
+pub mod status;
 pub mod text;
 
+pub use limits::Limits;
 pub use list::{Bytes, List};
+pub use memory::{MemFolder, MemSink, MemSource};
+pub use outside::{Failed, File, Folder, FolderFault, MOST_FILE_BYTES, Sink, Source};
+pub use place::{Place, Refusal, Refused, Rule, Word};
+pub use status::Status;
 pub use text::Text;
+
+#[cfg(test)]
+mod tests;
 
 use std::alloc::{AllocError, AllocFailed};
 
