@@ -29,7 +29,7 @@ pub record Shelf : Type 0 where
 
 -- the number of the next call; the last number stands still
 abbrev pub next_call : ℕ → ℕ
-next_call calls = min (calls + 1) (2 ^ 32 - 1)
+next_call calls = min (calls + 1) (2 ^ 64 - 1)
 
 -- the next call is one of those that fail
 abbrev pub fails_next : List ℕ → ℕ → Bool
@@ -42,15 +42,6 @@ one_more faults = min (faults + 1) (2 ^ 64 - 1)
 -- how many bytes a call gives
 abbrev pub given : Supply → ℕ → ℕ
 given s room = min s.piece (min room (length s.left))
-
-abbrev pub supply_after : Supply → ℕ → Supply
-supply_after s room =
-    if fails_next s.failing s.calls
-    then record { left = s.left; piece = s.piece; failing = s.failing; calls = next_call s.calls; faults = one_more s.faults }
-    else record { left = drop (given s room) s.left; piece = s.piece; failing = s.failing; calls = next_call s.calls; faults = s.faults }
-
-abbrev pub supply_answer : Supply → ℕ → Bool
-supply_answer s room = not (fails_next s.failing s.calls)
 
 -- a call takes what there is room for, and fails where it is a numbered one or there is no room for a piece that isn't empty
 abbrev pub refuses : Store → List ℕ → Bool

@@ -19,7 +19,7 @@ pub struct MemSource {
     at: usize,
     piece: usize,
     failing: List<u32>,
-    calls: u32,
+    calls: u64,
     faults: u64,
 }
 
@@ -52,10 +52,17 @@ impl MemSource {
 }
 
 /// Whether the next call is one of those that fail.
-fn is_failing(failing: &List<u32>, number: u32) -> bool
+fn is_failing(failing: &List<u32>, number: u64) -> bool
     ensures { result ≡ list_any (λ n. n == number) failing.now }
 {
-    failing.as_slice().iter().any(|n| *n == number)
+    failing.as_slice().iter().any(|n| u64::from(*n) == number)
+}
+
+/// One fault more, up to the last count.
+fn count_fault(faults: u64) -> u64
+    ensures { result ≡ one_more faults }
+{
+    faults.saturating_add(1)
 }
 
 /// Copies the first `n` bytes to the front of a buffer.
@@ -87,7 +94,7 @@ impl Source for MemSource {
     {
         self.calls = self.calls.saturating_add(1);
         if is_failing(&self.failing, self.calls) {
-            self.faults = self.faults.saturating_add(1);
+            self.faults = count_fault(self.faults);
             return Err(Failed);
         }
         let left = &self.bytes.as_slice()[self.at..];
@@ -104,7 +111,7 @@ pub struct MemSink {
     bytes: Vec<u8>,
     room: usize,
     failing: List<u32>,
-    calls: u32,
+    calls: u64,
     faults: u64,
 }
 
@@ -164,7 +171,7 @@ impl Sink for MemSink {
         let n = self.room.min(from.len());
         let refused = n == 0 && !from.is_empty();
         if is_failing(&self.failing, self.calls) || refused {
-            self.faults = self.faults.saturating_add(1);
+            self.faults = count_fault(self.faults);
             return Err(Failed);
         }
         if self.bytes.extend_from_slice(&from[..n]).is_err() {
@@ -181,7 +188,7 @@ pub struct MemFolder {
     alloc: Global,
     files: List<File>,
     failing: List<u32>,
-    calls: u32,
+    calls: u64,
     faults: u64,
 }
 
@@ -228,6 +235,7 @@ impl Folder for MemFolder {
     fn read(&mut self, name: &str) -> Result<Bytes, FolderFault>
         ensures same { Some (file_at self.new.files) ≡ Some (file_at self.old.files) }
         ensures file { AnswersFile (file_at self.old.files name.now) result }
+        ensures short { IfOk result (λ bytes. length bytes ≤ 4194304) }
         ensures never_falls { self.old.faults ≤ self.new.faults }
         ensures failed { IsErrOf result FailedFolder → Rose self.old.faults self.new.faults }
         // The numbered calls fail, and no others.
@@ -238,7 +246,7 @@ impl Folder for MemFolder {
     {
         self.calls = self.calls.saturating_add(1);
         if is_failing(&self.failing, self.calls) {
-            self.faults = self.faults.saturating_add(1);
+            self.faults = count_fault(self.faults);
             return Err(FolderFault::Failed);
         }
         file_of(self.alloc, find_file(self.files.as_slice(), name))
@@ -248,6 +256,7 @@ impl Folder for MemFolder {
 /// A copy of a file's bytes, where there are some and they aren't too many.
 fn file_of(alloc: Global, found: Option<&[u8]>) -> Result<Bytes, FolderFault>
     ensures answer { AnswersFile (option_copied found.entry) result }
+    ensures short { IfOk result (λ bytes. length bytes ≤ 4194304) }
     ensures not_failed { IsErrOf result FailedFolder → ⊥ }
 {
     let Some(bytes) = found else {

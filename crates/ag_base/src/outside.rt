@@ -81,6 +81,7 @@ pub trait Folder {
     fn read(&mut self, name: &str) -> Result<Bytes, FolderFault>
         ensures same { files self.new ≡ files self.old }
         ensures file { IfSome (files self.old) (λ file. AnswersFile (file name.now) result) }
+        ensures short { IfOk result (λ bytes. length bytes ≤ 4194304) }
         ensures never_falls { faults self.old ≤ faults self.new }
         ensures failed { IsErrOf result FailedFolder → Rose (faults self.old) (faults self.new) };
 }
