@@ -1,0 +1,12 @@
+pub mod Bytes
+pub mod Loop
+pub mod Tools
+pub mod Terminals
+pub mod Parts
+pub mod Laws
+pub mod Streams
+pub mod Formed
+pub mod Meaning
+pub mod Carry
+pub mod Verdicts
+pub mod Fit
