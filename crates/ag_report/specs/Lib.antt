@@ -1,0 +1,3 @@
+-- The texts of replies.
+pub mod Tables
+pub mod Texts
