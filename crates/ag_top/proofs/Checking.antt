@@ -1,0 +1,200 @@
+-- From the stages of a check to what it promises.
+use Rattle.std.proofs.Common.{◌≡◌, ◌⊎◌, ◌==◌, ◌+◌, Bool, true, false, if◌then◌else◌, ◌∙◌, ◌≤◌, ◌++◌, ◌∷◌, [], ℕ, List, length, Option, Result, Ok, Err, OnOk, IfOk, IsErrOf, refl, sym, ap, subst, arith, append_assoc, append-nil, inl, inr, get_or}
+use Rattle.std.specs.Prelude.{All, IfSome}
+use Rattle.std.specs.List.{AllByRecursion}
+use Rattle.std.proofs.lemmas.List.{length-map}
+use Rattle.std.proofs.Math.ListN.{get_or-map}
+use Rattle.std.proofs.lemmas.List.Elements.{All-from_recursion, All-map, All-weaker}
+use Rattle.ag_base.specs.declared.status.Status.{Status}
+use Rattle.ag_base.specs.declared.status.Status.TheVariants as statuses
+use Rattle.ag_stream.specs.declared.problem.ProblemDraft.{ProblemDraft}
+use Rattle.ag_stream.specs.Forms.{IsPlain}
+use Rattle.ag_verdict.specs.declared.key.Key.{Key}
+use Rattle.ag_verdict.specs.declared.key.Obligation.{Obligation}
+use Rattle.ag_small.specs.declared.package.Package.{Package}
+use Rattle.ag_small.specs.Rules.{IsWellFormed}
+use Rattle.ag_small.specs.Numbered.{obligations_of}
+use Rattle.ag_small.specs.Named.{IsTrueOfNamed}
+use Rattle.ag_small.specs.Carried.{AreFit, VerdictsCarryOver}
+use Rattle.ag_report.specs.Texts as texts
+use Rattle.ag_top.specs.declared.history.Tally.{Tally}
+use Rattle.ag_top.specs.declared.check.Stop.{Stop}
+use Rattle.ag_top.specs.declared.check.Stop.TheVariants as stops
+use Rattle.ag_top.specs.Entries.{PlainEntry, publish, published}
+use Rattle.ag_top.specs.Machine.{State, start, undecided, tally}
+use Rattle.ag_top.specs.Store.{Kept, IsKept, Enters, entry, accepted, AreDifferent, listed}
+use Rattle.ag_top.specs.Commands.{Command, Publish, Settle, Report, Close, check, Said, Accepted, Answers, Serves, IsToldOf, Grows, text_of, listed_of, sought, revision_after, status_by}
+use Rattle.ag_top.specs.Stages.{Stage, RunsAll, StopsIn, SaysThen, status_at, EndsByVerdicts}
+use Rattle.ag_top.specs.Outcome.{text_all, IsTruly, IsCheckAnswer, IsCheckCut}
+use Rattle.ag_top.proofs.Serving.{grow_more, grow_none}
+use Rattle.ag_top.proofs.Telling.{told_named}
+
+-- the entries of commands that were served, and what is said of them
+record Served (p : Package) (n : ℕ) (cs : List Command) (old new : Kept) (before now : Option (List ℕ)) : Type 0 where
+  entries : List PlainEntry
+  said : List Said
+  history : new.history ≡ old.history ++ entries
+  commands : Serves (listed_of p) n cs entries said
+  written : Grows before now (text_all p said)
+
+all_served : (p : Package) (n : ℕ) (cs : List Command) (old new : Kept) (before now : Option (List ℕ)) → RunsAll p n cs old new before now → Served p n cs old new before now
+all_served p n [] old new before now r = record {
+  entries = [];
+  said = [];
+  history = ap (λ (k : Kept). k.history) r.0 ∙ sym (append-nil old.history);
+  commands = (refl, refl);
+  written = subst (λ (o : Option (List ℕ)). Grows before o []) (sym r.1) (grow_none before);
+}
+all_served p n (c ∷ cs) old new before now r =
+    let s = r.2 in
+    let more = all_served p (revision_after n c) cs r.0 new r.1 now r.3 in
+    record {
+      entries = s.entries ++ more.entries;
+      said = s.said ∷ more.said;
+      history = more.history ∙ (ap (λ (h : List PlainEntry). h ++ more.entries) s.history ∙ append_assoc old.history s.entries more.entries);
+      commands = (s.entries, more.entries, s.said, more.said, refl, refl, s.answers, more.commands);
+      written = grow_more before r.1 now (text_of p s.said) (text_all p more.said) s.written more.written;
+    }
+
+-- those of the first commands, where the next one was begun
+record ServedSome (p : Package) (n : ℕ) (cs : List Command) (old new : Kept) (before now : Option (List ℕ)) : Type 0 where
+  done : List Command
+  ahead : List Command
+  all : cs ≡ done ++ ahead
+  entries : List PlainEntry
+  begun : List PlainEntry
+  said : List Said
+  history : new.history ≡ old.history ++ (entries ++ begun)
+  commands : Serves (listed_of p) n done entries said
+  written : Grows before now (text_all p said)
+
+some_served : (p : Package) (n : ℕ) (cs : List Command) (old new : Kept) (before now : Option (List ℕ)) → StopsIn p n cs old new before now → ServedSome p n cs old new before now
+some_served p n [] old new before now r = absurd r
+some_served p n (c ∷ cs) old new before now (inl b) = record {
+  done = [];
+  ahead = c ∷ cs;
+  all = refl;
+  entries = [];
+  begun = b.history.entries;
+  said = [];
+  history = b.history.whole;
+  commands = (refl, refl);
+  written = subst (λ (o : Option (List ℕ)). Grows before o []) (sym b.same) (grow_none before);
+}
+some_served p n (c ∷ cs) old new before now (inr r) =
+    let s = r.2 in
+    let more = some_served p (revision_after n c) cs r.0 new r.1 now r.3 in
+    record {
+      done = c ∷ more.done;
+      ahead = more.ahead;
+      all = ap (λ (ds : List Command). c ∷ ds) more.all;
+      entries = s.entries ++ more.entries;
+      begun = more.begun;
+      said = s.said ∷ more.said;
+      history = more.history ∙ (ap (λ (h : List PlainEntry). h ++ (more.entries ++ more.begun)) s.history
+          ∙ (append_assoc old.history s.entries (more.entries ++ more.begun) ∙ ap (λ (es : List PlainEntry). old.history ++ es) (sym (append_assoc s.entries more.entries more.begun))));
+      commands = (s.entries, more.entries, s.said, more.said, refl, refl, s.answers, more.commands);
+      written = grow_more before r.1 now (text_of p s.said) (text_all p more.said) s.written more.written;
+    }
+
+-- what is said is true
+says_truly : VerdictsCarryOver → (p : Package) → IsWellFormed p → (n : ℕ) (c : Command) (es : List PlainEntry) (said : Said) → Answers (listed_of p) n c es said → IsTruly p said
+says_truly carry p w n Publish es said a = subst (IsTruly p) (sym a.2) tt
+says_truly carry p w n Settle es said a = subst (IsTruly p) (sym a.1) tt
+says_truly carry p w n Report es said a =
+    subst (IsTruly p) (sym a.3) (a.4, All-weaker (IsToldOf (listed_of p)) (λ line. IfSome line.1 (λ v. IsTrueOfNamed p sought line.0 v)) (told_named carry p w) a.1 a.4)
+says_truly carry p w n Close es said a = subst (IsTruly p) (sym a.2) tt
+
+all_truly : VerdictsCarryOver → (p : Package) → IsWellFormed p → (n : ℕ) (cs : List Command) (es : List PlainEntry) (said : List Said) → Serves (listed_of p) n cs es said → AllByRecursion (IsTruly p) said
+all_truly carry p w n [] es said s = subst (AllByRecursion (IsTruly p)) (sym s.1) tt
+all_truly carry p w n (c ∷ cs) es said s =
+    subst (AllByRecursion (IsTruly p)) (sym s.5) (says_truly carry p w n c s.0 s.2 s.6, all_truly carry p w (revision_after n c) cs s.1 s.3 s.7)
+
+-- publishing is a stage of its own
+published_first : (p : Package) (list : List (Key × ProblemDraft)) (n : ℕ) (board : Kept) (before now : Option (List ℕ)) → list ≡ listed_of p
+    → Enters record { state = start; history = [] } board (publish list) (published (accepted n)) → Grows before now (texts.published 1 n 0 0)
+    → Stage p 0 Publish record { state = start; history = [] } board before now
+published_first p list n board before now e h g = record {
+  entries = entry (publish (listed_of p)) (published (accepted n)) ∷ [];
+  said = Accepted (accepted n);
+  history = h.history ∙ ap (λ (l : List (Key × ProblemDraft)). entry (publish l) (published (accepted n)) ∷ []) e;
+  answers = (accepted n, refl, refl);
+  written = g;
+}
+
+-- the whole check
+pub check_answers : VerdictsCarryOver → (p : Package) → IsWellFormed p → (list : List (Key × ProblemDraft)) (n : ℕ) (board end : Kept) (before now : Option (List ℕ)) (status : Status) → list ≡ listed_of p
+    → Enters record { state = start; history = [] } board (publish list) (published (accepted n))
+    → SaysThen (texts.published 1 n 0 0) (RunsAll p 1 (Settle ∷ Report ∷ Close ∷ []) board end) before now
+    → IsKept end → listed end.state ≡ listed_of p → undecided end.state ≡ 0 → status ≡ status_by (tally end.state) → IsCheckAnswer p end.history status before now
+check_answers carry p w list n board end before now status e h r k keys decided by =
+    let whole = all_served p 0 check record { state = start; history = [] } end before now (board, r.between, published_first p list n board before r.between e h r.written, r.rest) in
+    let replay = k.replay in
+    let commands : Serves (listed_of p) 0 check end.history whole.said = subst (λ (es : List PlainEntry). Serves (listed_of p) 0 check es whole.said) (sym whole.history) whole.commands in
+    record {
+      said = whole.said;
+      checked = record {
+        legal = k.legal;
+        commands = commands;
+        truly = All-from_recursion (IsTruly p) whole.said (all_truly carry p w 0 check end.history whole.said commands);
+        keys = subst (λ (s : State). listed s ≡ listed_of p) replay keys;
+        decided = subst (λ (s : State). undecided s ≡ 0) replay decided;
+        by_verdicts = by ∙ ap (λ (s : State). status_by (tally s)) replay;
+      };
+      written = whole.written;
+    }
+
+-- a check that was cut short
+pub check_cut : (p : Package) (list : List (Key × ProblemDraft)) (n : ℕ) (board end : Kept) (before now : Option (List ℕ)) → list ≡ listed_of p
+    → Enters record { state = start; history = [] } board (publish list) (published (accepted n))
+    → (now ≡ before) ⊎ SaysThen (texts.published 1 n 0 0) (StopsIn p 1 (Settle ∷ Report ∷ Close ∷ []) board end) before now
+    → IsKept end → IsCheckCut p end.history before now
+check_cut p list n board end before now e h (inl same) k = record {
+  said = [];
+  cut = record { legal = k.legal; done = []; ahead = check; all = refl; served = []; begun = end.history; whole = refl; commands = (refl, refl) };
+  written = subst (λ (o : Option (List ℕ)). Grows before o []) (sym same) (grow_none before);
+}
+check_cut p list n board end before now e h (inr r) k =
+    let some = some_served p 0 check record { state = start; history = [] } end before now (inr (board, r.between, published_first p list n board before r.between e h r.written, r.rest)) in
+    record {
+      said = some.said;
+      cut = record { legal = k.legal; done = some.done; ahead = some.ahead; all = some.all; served = some.entries; begun = some.begun; whole = some.history; commands = some.commands };
+      written = some.written;
+    }
+
+-- obligations that are fit are so as listed pairs
+pub fit_different : (p : Package) → AreFit (obligations_of p sought) → AreDifferent (listed_of p)
+fit_different p f i j d l m same =
+    let o : Obligation = record { key = d.0; layer = 0; problem = d.1 } in
+    let at : (k : ℕ) → get_or (listed_of p) k d ≡ ((get_or (obligations_of p sought) k o).key, (get_or (obligations_of p sought) k o).problem) = λ k. get_or-map {B = Key × ProblemDraft} (λ (x : Obligation). (x.key, x.problem)) (obligations_of p sought) k o in
+    f.different i j o l (let a = length-map {B = Key × ProblemDraft} (obligations_of p sought) (λ (x : Obligation). (x.key, x.problem)) in omega (arith, a, m))
+    (ap (λ (x : Key × ProblemDraft). x.1) (sym (at i)) ∙ (same ∙ ap (λ (x : Key × ProblemDraft). x.1) (at j)))
+
+pub fit_plain : (p : Package) → AreFit (obligations_of p sought) → All (λ k. IsPlain k.1) (listed_of p)
+fit_plain p f = All-map (λ (k : Key × ProblemDraft). IsPlain k.1) (λ (x : Obligation). (x.key, x.problem)) (obligations_of p sought) f.plain
+
+pub fit_few : (p : Package) → AreFit (obligations_of p sought) → length (listed_of p) ≤ 1024
+fit_few p f = let a = length-map {B = Key × ProblemDraft} (obligations_of p sought) (λ (x : Obligation). (x.key, x.problem)) in let b = f.few in omega (arith, a, b)
+
+pub record ByVerdicts (A : Type 0) (end : State) (status : Status) : Type 0 where
+  pub all : A
+  pub by : status ≡ status_by (tally end)
+  pub decided : undecided end ≡ 0
+
+-- a status that goes by the verdicts is that of a check that was served
+pub by_verdicts : (A : Type 0) (end : State) (r : Result Tally Stop) (status : Status) → status ≡ status_at r → EndsByVerdicts status
+    → OnOk r A → IfOk r (λ t. t ≡ tally end) → OnOk r (undecided end ≡ 0) → ByVerdicts A end status
+by_verdicts A end (Ok t) status e v a b d = record { all = a; by = e ∙ ap status_by b; decided = d }
+by_verdicts A end (Err stops.Write) status e v a b d = absurd (subst EndsByVerdicts e v)
+by_verdicts A end (Err stops.Memory) status e v a b d = absurd (subst EndsByVerdicts e v)
+
+not_memory : (b c : Bool) → (if b then (if c then statuses.AllGood else statuses.Unknown) else statuses.Refuted) ≡ statuses.OutOfMemory → ⊥
+not_memory true true e = cc
+not_memory true false e = cc
+not_memory false c e = cc
+
+-- the status of want of memory is that of a check that wanted it
+pub memory_stop : (r : Result Tally Stop) (status : Status) → status ≡ status_at r → status ≡ statuses.OutOfMemory → IsErrOf r stops.Memory
+memory_stop (Ok t) status e m = absurd (not_memory (t.refuted + t.inconsistent == 0) (t.unknown == 0) (sym e ∙ m))
+memory_stop (Err stops.Write) status e m = let x = sym e ∙ m in cc
+memory_stop (Err stops.Memory) status e m = refl

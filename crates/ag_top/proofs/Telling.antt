@@ -1,0 +1,77 @@
+-- What is told of lines that are true.
+use Rattle.std.proofs.Common.{◌≡◌, ◌∙◌, ◌<◌, ◌++◌, ◌∷◌, [], ℕ, zero, suc, List, length, map, Option, Some, None, refl, sym, ap, subst, arith, get_or}
+use Rattle.std.proofs.lemmas.List.{length-map, map-append}
+use Rattle.std.specs.declared.sync.Arc.{Arc}
+use Rattle.std.specs.declared.alloc.Global.{Global}
+use Rattle.ag_stream.specs.declared.problem.Problem.{Problem}
+use Rattle.ag_top.specs.Entries.{plain_list}
+use Rattle.std.specs.Prelude.{All, Any, Contains, IfSome}
+use Rattle.std.specs.List.{AllByRecursion}
+use Rattle.std.proofs.lemmas.List.Elements.{All-from_recursion, recursion_from_All}
+use Rattle.ag_stream.specs.declared.problem.ProblemDraft.{ProblemDraft}
+use Rattle.ag_verdict.specs.declared.key.Key.{Key}
+use Rattle.ag_verdict.specs.declared.key.Obligation.{Obligation}
+use Rattle.ag_verdict.specs.declared.verdict.Verdict.{Verdict}
+use Rattle.ag_verdict.specs.Verdicts.{IsTrueOf}
+use Rattle.ag_small.specs.declared.package.Package.{Package}
+use Rattle.ag_small.specs.Rules.{IsWellFormed}
+use Rattle.ag_small.specs.Numbered.{obligations_of}
+use Rattle.ag_small.specs.Named.{IsTrueOfNamed}
+use Rattle.ag_small.specs.Carried.{VerdictsCarryOver}
+use Rattle.ag_top.specs.Machine.{Line}
+use Rattle.ag_top.specs.Store.{IsTrueLine, told_of}
+use Rattle.ag_top.specs.Commands.{IsToldOf, listed_of, sought}
+
+abbrev pair_of : Line → Key × ProblemDraft
+pair_of l = (l.key, l.problem)
+
+-- what is found in a list is found behind one more
+later : {A : Type 0} (P : A → Type 0) (x : A) (xs : List A) → Any P xs → Any P (x ∷ xs)
+later P x xs a = (suc a.0, a.1, (let l = a.2 in omega arith), a.3, a.4)
+
+told_more : (k : Key × ProblemDraft) (list : List (Key × ProblemDraft)) (line : Key × Option Verdict) → IsToldOf list line → IsToldOf (k ∷ list) line
+told_more k list (j, None) h = tt
+told_more k list (j, Some v) h = later (λ (x : Key × ProblemDraft). (x.0 ≡ j) × IsTrueOf x.1 v) k list h
+
+all_told_more : (k : Key × ProblemDraft) (list : List (Key × ProblemDraft)) (lines : List (Key × Option Verdict)) → AllByRecursion (IsToldOf list) lines → AllByRecursion (IsToldOf (k ∷ list)) lines
+all_told_more k list [] h = tt
+all_told_more k list (l ∷ ls) h = (told_more k list l h.0, all_told_more k list ls h.1)
+
+told_first : (key : Key) (p : ProblemDraft) (o : Option Verdict) (list : List (Key × ProblemDraft)) → IfSome o (IsTrueOf p) → IsToldOf ((key, p) ∷ list) (key, o)
+told_first key p None list h = tt
+told_first key p (Some v) list h = (0, (key, p), omega arith, refl, (refl, h))
+
+each_told : (ls : List Line) → AllByRecursion IsTrueLine ls → AllByRecursion (IsToldOf (map pair_of ls)) (told_of ls)
+each_told [] h = tt
+each_told (l ∷ ls) h = (told_first l.key l.problem l.verdict (map pair_of ls) h.0, all_told_more (l.key, l.problem) (map pair_of ls) (told_of ls) (each_told ls h.1))
+
+pub told_true : (ls : List Line) → All IsTrueLine ls → All (IsToldOf (map (λ (l : Line). (l.key, l.problem)) ls)) (told_of ls)
+told_true ls h = All-from_recursion (IsToldOf (map pair_of ls)) (told_of ls) (each_told ls (recursion_from_All IsTrueLine ls h))
+
+abbrev pub pairs_of : List Obligation → List (Key × ProblemDraft)
+pairs_of os = map {B = Key × ProblemDraft} (λ o. (o.key, o.problem)) os
+
+-- an obligation behind a listed pair
+obligation_of : (os : List Obligation) (k : Key × ProblemDraft) (n : ℕ) → n < length os → get_or (map {B = Key × ProblemDraft} (λ o. (o.key, o.problem)) os) n k ≡ k
+    → (o : Obligation) × Contains os o × (o.key ≡ k.0) × (o.problem ≡ k.1)
+obligation_of [] k n l e = absurd (omega arith)
+obligation_of (o ∷ os) k zero l e = (o, (0, omega arith, refl), ap (λ (x : Key × ProblemDraft). x.0) e, ap (λ (x : Key × ProblemDraft). x.1) e)
+obligation_of (o ∷ os) k (suc n) l e =
+    let r = obligation_of os k n (omega arith) e in
+    let c = r.1 in
+    (r.0, (suc c.0, (let m = c.1 in omega arith), c.2), r.2, r.3)
+
+-- a verdict that is told is true of what its key says of the package
+pub told_named : VerdictsCarryOver → (p : Package) → IsWellFormed p → (line : Key × Option Verdict) → IsToldOf (listed_of p) line → IfSome line.1 (λ v. IsTrueOfNamed p sought line.0 v)
+told_named carry p w (key, None) h = tt
+told_named carry p w (key, Some v) h =
+    let r = obligation_of (obligations_of p sought) h.1 h.0 (let a = length-map {B = Key × ProblemDraft} (obligations_of p sought) (λ (o : Obligation). (o.key, o.problem)) in let l = h.2 in omega (arith, a, l)) h.3 in
+    subst (λ (k : Key). IsTrueOfNamed p sought k v) (r.2 ∙ h.4.0) (carry p sought r.0 v w r.1 (subst (λ (d : ProblemDraft). IsTrueOf d v) (sym r.3) h.4.1))
+
+-- one obligation more
+pub pushed_pair : (old new : List (Key × Arc Problem Global)) (o : Obligation) (os : List Obligation) (a : Arc Problem Global) → new ≡ old ++ (o.key, a) ∷ [] → a.value ≡ o.problem → plain_list old ≡ pairs_of os
+    → plain_list new ≡ pairs_of (os ++ o ∷ [])
+pushed_pair old new o os a h e so =
+    ap (λ (xs : List (Key × Arc Problem Global)). plain_list xs) h
+    ∙ (map-append {B = Key × ProblemDraft} (λ (k : Key × Arc Problem Global). (k.0, k.1.value)) old ((o.key, a) ∷ [])
+    ∙ (ap (λ (xs : List (Key × ProblemDraft)). xs ++ (o.key, a.value) ∷ []) so ∙ (ap (λ (p : ProblemDraft). pairs_of os ++ (o.key, p) ∷ []) e ∙ sym (map-append {B = Key × ProblemDraft} (λ (x : Obligation). (x.key, x.problem)) os (o ∷ [])))))

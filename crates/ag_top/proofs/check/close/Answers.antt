@@ -1,0 +1,11 @@
+use Rattle.std.proofs.Common.{refl, ◌∙◌}
+use Rattle.ag_top.proofs.Staging.{stage_close}
+use Rattle.ag_top.proofs.check.close.Goals as goal
+
+pub returns-clause-all : goal.returns-clause-all
+returns-clause-all g c = (
+  c.close.new.self,
+  g.K.Sink.written c.say.new.sink,
+  stage_close c.args.package.now 1 c.args.board.now _ c.close.new.self _ _ c.as_slice.result.now c.in_ok-tally.tally c.in_ok-settle.ensures.settled c.in_ok-tally.ensures.entry (c.as_slice.ensures ∙ c.in_ok-text.ensures) c.in_ok-say.ensures.taken,
+  (refl, refl),
+)

@@ -1,0 +1,8 @@
+-- The definitions of this crate.
+pub mod Entries
+pub mod Machine
+pub mod Store
+pub mod Trying
+pub mod Commands
+pub mod Stages
+pub mod Outcome

@@ -1,0 +1,134 @@
+-- What a run of the program promises, from the words and the bytes that were read to the bytes that were written.
+use Rattle.std.specs.Prelude.{◌≡◌, ◌⊎◌, ◌<◌, ◌≤◌, ◌++◌, ◌∷◌, [], ℕ, List, length, All, Option, IfSome, codes}
+use Rattle.std.specs.List.{flat_map}
+use Rattle.ag_base.specs.declared.status.Status.{Status}
+use Rattle.ag_small.specs.declared.package.Package.{Package}
+use Rattle.ag_small.specs.Reads.{Reads}
+use Rattle.ag_small.specs.Named.{IsTrueOfNamed}
+use Rattle.ag_top.specs.Entries.{PlainEntry}
+use Rattle.ag_top.specs.Machine.{start, state_after, IsLegal, undecided, tally}
+use Rattle.ag_top.specs.Store.{listed}
+use Rattle.ag_top.specs.Commands.{Command, check, Said, Accepted, AllSettled, Told, Shut, text_of, listed_of, sought, Serves, IsToldOf, Grows, status_by}
+
+-- the words of the one command
+abbrev pub IsCheck : List (List ℕ) → Type 0
+IsCheck words = words ≡ codes "check" ∷ codes "-" ∷ []
+
+abbrev pub usage_text : List ℕ
+usage_text = codes "usage: agreec check -\n"
+
+abbrev pub too_long_text : List ℕ
+too_long_text = codes "refused - TooLong\n"
+
+abbrev pub not_built_text : List ℕ
+not_built_text = codes "refused -:1:1 NotBuilt\n"
+
+-- the text that was read is all that the source has, where it tells
+abbrev pub IsTextOf : Option (List ℕ) → List ℕ → Type 0
+IsTextOf left text = IfSome left (λ bytes. text ≡ bytes)
+
+-- the replies, one after another
+abbrev pub text_all : Package → List Said → List ℕ
+text_all p said = flat_map (text_of p) said
+
+-- each verdict that is told is true of its key's problem, and of what the key says of the package by name
+abbrev pub IsTruly : Package → Said → Type 0
+IsTruly p (Accepted r) = Unit {0}
+IsTruly p (AllSettled n) = Unit {0}
+IsTruly p (Told n lines) = All (IsToldOf (listed_of p)) lines × All (λ line. IfSome line.1 (λ v. IsTrueOfNamed p sought line.0 v)) lines
+IsTruly p (Shut t) = Unit {0}
+
+-- The headline: the replies are those of one legal history that holds the commands once each; what they tell is true; after
+-- the close each obligation has a verdict, and no other key has; the status is that of the verdicts
+pub record IsChecked (p : Package) (history : List PlainEntry) (said : List Said) (status : Status) : Type 0 where
+  pub legal : IsLegal history
+  pub commands : Serves (listed_of p) 0 check history said
+  pub truly : All (IsTruly p) said
+  pub keys : listed (state_after start history) ≡ listed_of p
+  pub decided : undecided (state_after start history) ≡ 0
+  pub by_verdicts : status ≡ status_by (tally (state_after start history))
+
+-- a check that was cut short: the first commands were served, and the next one may have begun
+pub record IsCutShort (p : Package) (history : List PlainEntry) (said : List Said) : Type 0 where
+  pub legal : IsLegal history
+  pub done : List Command
+  pub ahead : List Command
+  pub all : check ≡ done ++ ahead
+  pub served : List PlainEntry
+  pub begun : List PlainEntry
+  pub whole : history ≡ served ++ begun
+  pub commands : Serves (listed_of p) 0 done served said
+
+-- the check of a package was answered, and what is said of it was written
+pub record IsCheckAnswer (p : Package) (history : List PlainEntry) (status : Status) (before now : Option (List ℕ)) : Type 0 where
+  pub said : List Said
+  pub checked : IsChecked p history said status
+  pub written : Grows before now (text_all p said)
+
+-- it was cut short, and what is said of the first commands was written
+pub record IsCheckCut (p : Package) (history : List PlainEntry) (before now : Option (List ℕ)) : Type 0 where
+  pub said : List Said
+  pub cut : IsCutShort p history said
+  pub written : Grows before now (text_all p said)
+
+-- no entry was made, and nothing was written
+pub record IsNothing (history : List PlainEntry) (before now : Option (List ℕ)) : Type 0 where
+  pub empty : history ≡ []
+  pub unwritten : now ≡ before
+
+-- a text of the source has more than 4,194,304 bytes
+pub record IsTooLong (left : Option (List ℕ)) : Type 0 where
+  pub text : List ℕ
+  pub read : IsTextOf left text
+  pub long : 4194304 < length text
+
+-- the words are another command: the usage is written
+pub record IsUsage (words : List (List ℕ)) (history : List PlainEntry) (before now : Option (List ℕ)) : Type 0 where
+  pub other : IsCheck words → ⊥
+  pub written : Grows before now usage_text
+  pub empty : history ≡ []
+
+-- what was read is too long, or no package of the grammar, and that is written
+pub record IsRefusal (words : List (List ℕ)) (left : Option (List ℕ)) (history : List PlainEntry) (before now : Option (List ℕ)) : Type 0 where
+  pub command : IsCheck words
+  pub text : List ℕ
+  pub read : IsTextOf left text
+  pub cause : ((4194304 < length text) × Grows before now too_long_text)
+      ⊎ ((length text ≤ 4194304) × ((p : Package) → Reads text p → ⊥) × Grows before now not_built_text)
+  pub empty : history ≡ []
+
+-- what was read is a package, whose check was answered
+pub record IsAnswer (words : List (List ℕ)) (left : Option (List ℕ)) (history : List PlainEntry) (status : Status) (before now : Option (List ℕ)) : Type 0 where
+  pub command : IsCheck words
+  pub text : List ℕ
+  pub read : IsTextOf left text
+  pub few : length text ≤ 4194304
+  pub declared : Package
+  pub reads : Reads text declared
+  pub answer : IsCheckAnswer declared history status before now
+
+-- what was read is a package, whose check was cut short
+pub record IsUnfinished (left : Option (List ℕ)) (history : List PlainEntry) (before now : Option (List ℕ)) : Type 0 where
+  pub text : List ℕ
+  pub read : IsTextOf left text
+  pub declared : Package
+  pub reads : Reads text declared
+  pub cut : IsCheckCut declared history before now
+
+-- a text is a package, whose check was answered
+pub record IsTextAnswer (text : List ℕ) (history : List PlainEntry) (status : Status) (before now : Option (List ℕ)) : Type 0 where
+  pub declared : Package
+  pub reads : Reads text declared
+  pub answer : IsCheckAnswer declared history status before now
+
+-- a text is a package, whose check was cut short
+pub record IsTextCut (text : List ℕ) (history : List PlainEntry) (before now : Option (List ℕ)) : Type 0 where
+  pub declared : Package
+  pub reads : Reads text declared
+  pub cut : IsCheckCut declared history before now
+
+-- a text is no package of the grammar, and that was written
+pub record IsTextRefused (text : List ℕ) (history : List PlainEntry) (before now : Option (List ℕ)) : Type 0 where
+  pub none : (p : Package) → Reads text p → ⊥
+  pub written : Grows before now not_built_text
+  pub empty : history ≡ []

@@ -1,0 +1,192 @@
+//! Whole runs in memory: what is written, to the byte, and how the run ends.
+use crate::agree;
+use ag_base::{List, MemFolder, MemSink, MemSource, Status, Text};
+use std::alloc::Global;
+use std::process::Abort;
+use std::sync::Wait;
+use std::test::Fail;
+use std::thread::Threads;
+
+const PACKAGE: &str =
+    "package P\npublic\nwith Base_Types;\nsystem S\nfeatures\na : in data port Base_Types::Boolean;\n\
+b : in data port Base_Types::Boolean;\no : out data port Base_Types::Boolean;\nannex agree {**\n\
+guarantee \"g\" : true;\n**};\nend S;\nsystem implementation S.i\nannex agree {**\nassign o = a;\n**};\nend S.i;\nend P;\n";
+
+const PROVED: &str = "revision 1: 2 obligations, 0 carried, 0 cancelled
+settled 1
+report 1
+P::S.i guarantee 1 \"g\": proved k=1
+P::S.i consistent: consistent 1
+end report
+closed 1: 1 proved, 0 refuted, 1 consistent, 0 inconsistent, 0 unknown
+";
+
+const REFUTED: &str = "revision 1: 2 obligations, 0 carried, 0 cancelled
+settled 1
+report 1
+P::S.i guarantee 1 \"g\": refuted at 1
+  instant     1
+  a       false
+  b       false
+  o       false
+P::S.i consistent: consistent 1
+end report
+closed 1: 0 proved, 1 refuted, 1 consistent, 0 inconsistent, 0 unknown
+";
+
+const VOID: &str = "revision 1: 2 obligations, 0 carried, 0 cancelled
+settled 1
+report 1
+P::S.i guarantee 1 \"g\": proved k=1
+P::S.i consistent: inconsistent 1
+end report
+closed 1: 1 proved, 0 refuted, 0 consistent, 1 inconsistent, 0 unknown
+";
+
+/// A run on these words and this text, of which two bytes are read at a time.
+fn expect<R: Threads + Wait + Abort + Sync>(
+    rt: &R,
+    alloc: Global,
+    words: &[&str],
+    text: &str,
+    failing: (u32, u32),
+    room: u32,
+    wanted: (&str, Status, u32),
+) -> Result<(), Fail> {
+    let mut given = Vec::new(alloc);
+    for word in words {
+        given.push(Text::make(alloc, *word)?)?;
+    }
+    let (mut reads, mut writes) = (List::new(alloc), List::new(alloc));
+    reads.push(failing.0)?;
+    writes.push(failing.1)?;
+    let bytes = List::from_vec(Vec::from_slice(alloc, text.as_bytes())?);
+    let mut source = MemSource::make(bytes, 2, reads);
+    let mut sink = MemSink::make(alloc, room, writes)?;
+    let mut folder = MemFolder::make(alloc, List::new(alloc), List::new(alloc));
+    let done = agree(rt, alloc, &given, &mut source, &mut sink, &mut folder);
+    let (output, status, entries) = wanted;
+    assert_eq!(rt; sink.bytes(), output.as_bytes());
+    assert_eq!(rt; done.status, status);
+    assert_eq!(rt; done.history.len(), entries);
+    Ok(())
+}
+
+#[test]
+fn checks_what_it_reads(rt: HostRuntime) -> Result<(), Fail> {
+    let rows = [
+        ("a", "a", PROVED, Status::AllGood),
+        (
+            "true;\n**};\nend S;",
+            "o;\n**};\nend S;",
+            REFUTED,
+            Status::Refuted,
+        ),
+        (
+            "guarantee",
+            "assume \"no\" : false; guarantee",
+            VOID,
+            Status::Refuted,
+        ),
+        (
+            "S.i;",
+            "S.j;",
+            "refused -:1:1 NotBuilt\n",
+            Status::ModelRefused,
+        ),
+    ];
+    for (old, new, output, status) in &rows {
+        let (front, rest) = PACKAGE.split_once(*old).ok_or("the package has the text")?;
+        let text = format!(in rt.alloc(); "{front}{new}{rest}")?;
+        let entries = if *status == Status::ModelRefused {
+            0
+        } else {
+            9
+        };
+        expect(
+            &rt,
+            rt.alloc(),
+            &["check", "-"],
+            text.as_str(),
+            (0, 0),
+            4096,
+            (*output, *status, entries),
+        )?;
+    }
+    Ok(())
+}
+
+#[test]
+fn ends_where_the_outside_fails(rt: HostRuntime) -> Result<(), Fail> {
+    let check = ["check", "-"];
+    let first = "revision 1: 2 obligations, 0 carried, 0 cancelled\n";
+    expect(
+        &rt,
+        rt.alloc(),
+        &check,
+        PACKAGE,
+        (3, 0),
+        4096,
+        ("", Status::ReadFault, 0),
+    )?;
+    expect(
+        &rt,
+        rt.alloc(),
+        &check,
+        PACKAGE,
+        (0, 1),
+        4096,
+        ("", Status::WriteFault, 1),
+    )?;
+    expect(
+        &rt,
+        rt.alloc(),
+        &check,
+        PACKAGE,
+        (0, 2),
+        4096,
+        (first, Status::WriteFault, 6),
+    )?;
+    expect(
+        &rt,
+        rt.alloc(),
+        &check,
+        PACKAGE,
+        (0, 0),
+        50,
+        (first, Status::WriteFault, 6),
+    )
+}
+
+#[test]
+fn tells_its_usage(rt: HostRuntime) -> Result<(), Fail> {
+    let usage = "usage: agreec check -\n";
+    let rows: [&[&str]; 4] = [&[], &["check"], &["check", "x.aadl"], &["check", "-", "-"]];
+    for words in &rows {
+        expect(
+            &rt,
+            rt.alloc(),
+            *words,
+            PACKAGE,
+            (1, 0),
+            64,
+            (usage, Status::Usage, 0),
+        )?;
+    }
+    Ok(())
+}
+
+#[test]
+fn refuses_what_is_too_long(rt: HostRuntime) -> Result<(), Fail> {
+    let text = " ".repeat(rt.alloc(), 4_194_305)?;
+    let output = "refused - TooLong\n";
+    expect(
+        &rt,
+        rt.alloc(),
+        &["check", "-"],
+        text.as_str(),
+        (0, 0),
+        64,
+        (output, Status::ModelRefused, 0),
+    )
+}
