@@ -1,10 +1,10 @@
 -- The words of a command, and the ends of a text.
-use Rattle.std.proofs.Common.{◌≡◌, ◌∙◌, ◌<◌, ◌≤◌, ◌∷◌, [], ℕ, List, length, Option, sym, ap, arith, get_or, inr}
+use Rattle.std.proofs.Common.{◌≡◌, ◌⊎◌, ◌∙◌, ◌<◌, ◌≤◌, ◌∷◌, [], ℕ, List, length, Option, sym, ap, arith, get_or, inl, inr}
 use Rattle.ag_base.specs.declared.status.Status.{Status}
 use Rattle.ag_base.specs.declared.status.Status.TheVariants as statuses
 use Rattle.ag_top.specs.Entries.{PlainEntry}
 use Rattle.ag_top.specs.Stages.{IsEndOfCheck, IsEndOfText}
-use Rattle.ag_top.specs.Outcome.{IsCheck, IsTextOf, IsTextRefused, IsRefusal}
+use Rattle.ag_top.specs.Outcome.{IsCheck, IsTextOf, IsTextRefused, IsTextCut, IsRefusal, IsUnfinished, IsNothing}
 
 -- a list of two
 pub two_items : (ws : List (List ℕ)) (a b : List ℕ) → 2 ≤ length ws → length ws < 3 → a ≡ get_or ws 0 a → b ≡ get_or ws 1 b → ws ≡ a ∷ b ∷ []
@@ -42,4 +42,18 @@ refusal_of words left text history before now w r few h = record {
   read = r;
   cause = inr (few, h.none, h.written);
   empty = h.empty;
+}
+
+-- what was read is a text whose check was cut short, if it was begun
+pub unfinished_of : (words : List (List ℕ)) (left : Option (List ℕ)) (text : List ℕ) (history : List PlainEntry) (before now : Option (List ℕ)) → IsCheck words → IsTextOf left text
+    → length text ≤ 4194304 → IsNothing history before now ⊎ IsTextCut text history before now → IsNothing history before now ⊎ IsUnfinished words left history before now
+unfinished_of words left text history before now w r few (inl h) = inl h
+unfinished_of words left text history before now w r few (inr h) = inr record {
+  command = w;
+  text = text;
+  read = r;
+  few = few;
+  declared = h.declared;
+  reads = h.reads;
+  cut = h.cut;
 }

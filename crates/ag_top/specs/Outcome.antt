@@ -48,7 +48,7 @@ pub record IsChecked (p : Package) (history : List PlainEntry) (said : List Said
   pub decided : undecided (state_after start history) ≡ 0
   pub by_verdicts : status ≡ status_by (tally (state_after start history))
 
--- a check that was cut short: the first commands were served, and the next one may have begun
+-- a check that was cut short: the first commands were served; of the entries behind theirs it is said only that the history is legal
 pub record IsCutShort (p : Package) (history : List PlainEntry) (said : List Said) : Type 0 where
   pub legal : IsLegal history
   pub done : List Command
@@ -108,9 +108,11 @@ pub record IsAnswer (words : List (List ℕ)) (left : Option (List ℕ)) (histor
   pub answer : IsCheckAnswer declared history status before now
 
 -- what was read is a package, whose check was cut short
-pub record IsUnfinished (left : Option (List ℕ)) (history : List PlainEntry) (before now : Option (List ℕ)) : Type 0 where
+pub record IsUnfinished (words : List (List ℕ)) (left : Option (List ℕ)) (history : List PlainEntry) (before now : Option (List ℕ)) : Type 0 where
+  pub command : IsCheck words
   pub text : List ℕ
   pub read : IsTextOf left text
+  pub few : length text ≤ 4194304
   pub declared : Package
   pub reads : Reads text declared
   pub cut : IsCheckCut declared history before now

@@ -85,11 +85,11 @@ pub fn agree<R: Threads + Wait + Sync, S: Source, K: Sink, F: Folder>(
     ensures answer { EndsByVerdicts result.status → IsAnswer words.now (S.left source.old) result.history result.status (K.written sink.old) (K.written sink.new) }
 
     // A fault is told only where its count rose.
-    ensures read_fault { result.status ≡ statuses.ReadFault → Rose (S.faults source.old) (S.faults source.new) × IsNothing result.history (K.written sink.old) (K.written sink.new) }
+    ensures read_fault { result.status ≡ statuses.ReadFault → IsCheck words.now × Rose (S.faults source.old) (S.faults source.new) × IsNothing result.history (K.written sink.old) (K.written sink.new) }
     ensures write_fault { result.status ≡ statuses.WriteFault → Rose (K.faults sink.old) (K.faults sink.new) }
 
     // For want of memory nothing was written, or the replies to the first commands.
-    ensures memory { result.status ≡ statuses.OutOfMemory → IsNothing result.history (K.written sink.old) (K.written sink.new) ⊎ IsUnfinished (S.left source.old) result.history (K.written sink.old) (K.written sink.new) }
+    ensures memory { result.status ≡ statuses.OutOfMemory → IsNothing result.history (K.written sink.old) (K.written sink.new) ⊎ IsUnfinished words.now (S.left source.old) result.history (K.written sink.old) (K.written sink.new) }
 
     ensures no_session { result.status ≢ statuses.SessionRefused }
 {
