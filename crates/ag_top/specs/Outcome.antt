@@ -71,6 +71,20 @@ pub record IsCheckCut (p : Package) (history : List PlainEntry) (before now : Op
   pub cut : IsCutShort p history said
   pub written : Grows before now (text_all p said)
 
+-- the first commands were served, and what is said of the last of them was written in part
+pub record IsCheckBroken (p : Package) (history : List PlainEntry) (before now : Option (List ℕ)) : Type 0 where
+  pub legal : IsLegal history
+  pub done : List Command
+  pub ahead : List Command
+  pub all : check ≡ done ++ ahead
+  pub said : List Said
+  pub last : Said
+  pub commands : Serves (listed_of p) 0 done history (said ++ last ∷ [])
+  pub truly : All (IsTruly p) (said ++ last ∷ [])
+  pub taken : ℕ
+  pub short : taken < length (text_of p last)
+  pub written : Grows before now (text_all p said ++ take taken (text_of p last))
+
 -- no entry was made, and nothing was written
 pub record IsNothing (history : List PlainEntry) (before now : Option (List ℕ)) : Type 0 where
   pub empty : history ≡ []

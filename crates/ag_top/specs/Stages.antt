@@ -1,5 +1,5 @@
 -- What it is to serve commands, from one store and one text to the next.
-use Rattle.std.specs.Prelude.{◌≡◌, ◌⊎◌, ◌++◌, ◌∷◌, [], ℕ, List, Option, Result, Ok, Err}
+use Rattle.std.specs.Prelude.{◌≡◌, ◌<◌, ◌⊎◌, ◌++◌, ◌∷◌, [], ℕ, List, Option, Some, None, Result, Ok, Err, length, take}
 use Rattle.ag_base.specs.declared.status.Status.{Status}
 use Rattle.ag_base.specs.declared.status.Status.TheVariants as statuses
 use Rattle.ag_top.specs.declared.history.Tally.{Tally}
@@ -64,6 +64,27 @@ StopsIn p n [] old new before now = ⊥
 StopsIn p n (c ∷ cs) old new before now =
     Begins old new before now
     ⊎ ((middle : Kept) × (between : Option (List ℕ)) × Stage p n c old middle before between × StopsIn p (revision_after n c) cs middle new between now)
+
+-- the first bytes of a text were written, but not all
+pub record Partly (text : List ℕ) (before now : Option (List ℕ)) : Type 0 where
+  pub taken : ℕ
+  pub short : taken < length text
+  pub written : Grows before now (take taken text)
+
+-- a command was answered, and the first bytes of what is said of it were written
+pub record Broken (p : Package) (n : ℕ) (c : Command) (old new : Kept) (before now : Option (List ℕ)) : Type 0 where
+  pub entries : List PlainEntry
+  pub said : Said
+  pub history : new.history ≡ old.history ++ entries
+  pub answers : Answers (listed_of p) n c entries said
+  pub partly : Partly (text_of p said) before now
+
+-- the first of the commands were answered in order, and what is said of the last of them was written in part
+abbrev pub FailsIn : Package → ℕ → List Command → Kept → Kept → Option (List ℕ) → Option (List ℕ) → Type 0
+FailsIn p n [] old new before now = ⊥
+FailsIn p n (c ∷ cs) old new before now =
+    Broken p n c old new before now
+    ⊎ ((middle : Kept) × (between : Option (List ℕ)) × Stage p n c old middle before between × FailsIn p (revision_after n c) cs middle new between now)
 
 -- a text was written, and then the rest came
 pub record SaysThen (text : List ℕ) (Then : Option (List ℕ) → Option (List ℕ) → Type 0) (before now : Option (List ℕ)) : Type 0 where

@@ -8,8 +8,8 @@ ghost use Rattle.ag_top.specs.Entries.{plain_list};
 ghost use Rattle.ag_top.specs.Machine.{undecided, tally};
 ghost use Rattle.ag_top.specs.Store.{listed, IsIdle};
 ghost use Rattle.ag_top.specs.Commands.{Settle, Report, Close, listed_of};
-ghost use Rattle.ag_top.specs.Stages.{RunsAll, StopsIn, SaysThen, status_at, EndsByVerdicts, IsEndOfCheck};
-ghost use Rattle.ag_top.specs.Outcome.{IsCheckAnswer, IsCheckCut, IsNothing};
+ghost use Rattle.ag_top.specs.Stages.{RunsAll, StopsIn, FailsIn, Partly, SaysThen, status_at, EndsByVerdicts, IsEndOfCheck};
+ghost use Rattle.ag_top.specs.Outcome.{IsCheckAnswer, IsCheckCut, IsCheckBroken, IsNothing};
 ghost use Rattle.ag_base.specs.declared.status.Status.TheVariants as statuses;
 ghost use Rattle.ag_report.specs.Texts as texts;
 
@@ -68,6 +68,7 @@ fn close<K: Sink>(
     ensures tally { IfOk result (λ t. t ≡ tally board.new.state) }
     ensures decided { OnOk result (undecided board.new.state ≡ 0) }
     ensures memory { IsErrOf result stops.Memory → StopsIn «package».now 1 (Close ∷ []) board.old board.new (K.written sink.old) (K.written sink.new) }
+    ensures broken { IsErrOf result stops.Write → FailsIn «package».now 1 (Close ∷ []) board.old board.new (K.written sink.old) (K.written sink.new) }
     ensures write { IsErrOf result stops.Write → Rose (K.faults sink.old) (K.faults sink.new) }
     ensures never_falls { K.faults sink.old ≤ K.faults sink.new }
     ensures same { listed board.new.state ≡ listed board.old.state }
@@ -102,6 +103,7 @@ fn report<K: Sink>(
     ensures tally { IfOk result (λ t. t ≡ tally board.new.state) }
     ensures decided { OnOk result (undecided board.new.state ≡ 0) }
     ensures memory { IsErrOf result stops.Memory → StopsIn «package».now 1 (Report ∷ Close ∷ []) board.old board.new (K.written sink.old) (K.written sink.new) }
+    ensures broken { IsErrOf result stops.Write → FailsIn «package».now 1 (Report ∷ Close ∷ []) board.old board.new (K.written sink.old) (K.written sink.new) }
     ensures write { IsErrOf result stops.Write → Rose (K.faults sink.old) (K.faults sink.new) }
     ensures never_falls { K.faults sink.old ≤ K.faults sink.new }
     ensures same { listed board.new.state ≡ listed board.old.state }
@@ -127,6 +129,7 @@ fn settle_first<K: Sink>(
     ensures tally { IfOk result (λ t. t ≡ tally board.new.state) }
     ensures decided { OnOk result (undecided board.new.state ≡ 0) }
     ensures memory { IsErrOf result stops.Memory → StopsIn «package».now 1 (Settle ∷ Report ∷ Close ∷ []) board.old board.new (K.written sink.old) (K.written sink.new) }
+    ensures broken { IsErrOf result stops.Write → FailsIn «package».now 1 (Settle ∷ Report ∷ Close ∷ []) board.old board.new (K.written sink.old) (K.written sink.new) }
     ensures write { IsErrOf result stops.Write → Rose (K.faults sink.old) (K.faults sink.new) }
     ensures never_falls { K.faults sink.old ≤ K.faults sink.new }
     ensures same { listed board.new.state ≡ listed board.old.state }
@@ -152,6 +155,7 @@ fn accepted_first<K: Sink>(
     ensures tally { IfOk result (λ t. t ≡ tally board.new.state) }
     ensures decided { OnOk result (undecided board.new.state ≡ 0) }
     ensures memory { IsErrOf result stops.Memory → (K.written sink.new ≡ K.written sink.old) ⊎ SaysThen (texts.published 1 count 0 0) (StopsIn «package».now 1 (Settle ∷ Report ∷ Close ∷ []) board.old board.new) (K.written sink.old) (K.written sink.new) }
+    ensures broken { IsErrOf result stops.Write → ((board.new ≡ board.old) × Partly (texts.published 1 count 0 0) (K.written sink.old) (K.written sink.new)) ⊎ SaysThen (texts.published 1 count 0 0) (FailsIn «package».now 1 (Settle ∷ Report ∷ Close ∷ []) board.old board.new) (K.written sink.old) (K.written sink.new) }
     ensures write { IsErrOf result stops.Write → Rose (K.faults sink.old) (K.faults sink.new) }
     ensures never_falls { K.faults sink.old ≤ K.faults sink.new }
     ensures same { listed board.new.state ≡ listed board.old.state }
@@ -216,6 +220,7 @@ pub fn check<K: Sink>(alloc: Global, package: &Package, sink: &mut K) -> Done
     requires { IsWellFormed «package».now }
     ensures checked { EndsByVerdicts result.status → IsCheckAnswer «package».now result.history result.status (K.written sink.old) (K.written sink.new) }
     ensures memory { result.status ≡ statuses.OutOfMemory → IsNothing result.history (K.written sink.old) (K.written sink.new) ⊎ IsCheckCut «package».now result.history (K.written sink.old) (K.written sink.new) }
+    ensures broken { result.status ≡ statuses.WriteFault → IsCheckBroken «package».now result.history (K.written sink.old) (K.written sink.new) }
     ensures write { result.status ≡ statuses.WriteFault → Rose (K.faults sink.old) (K.faults sink.new) }
     ensures only { IsEndOfCheck result.status }
     ensures never_falls { K.faults sink.old ≤ K.faults sink.new }
