@@ -1,5 +1,5 @@
 -- From the stages of a check to what it promises.
-use Rattle.std.proofs.Common.{◌≡◌, ◌⊎◌, ◌==◌, ◌+◌, Bool, true, false, if◌then◌else◌, ◌∙◌, ◌≤◌, ◌++◌, ◌∷◌, [], ℕ, List, length, Option, Result, Ok, Err, OnOk, IfOk, IsErrOf, refl, sym, ap, subst, arith, append_assoc, append-nil, inl, inr, get_or}
+use Rattle.std.proofs.Common.{◌≡◌, ◌<◌, ◌⊎◌, ◌==◌, ◌+◌, Bool, true, false, if◌then◌else◌, ◌∙◌, ◌≤◌, ◌++◌, ◌∷◌, [], ℕ, List, take, length, Option, Result, Ok, Err, OnOk, IfOk, IsErrOf, refl, sym, ap, subst, arith, append_assoc, append-nil, inl, inr, get_or}
 use Rattle.std.specs.Prelude.{All, IfSome}
 use Rattle.std.specs.List.{AllByRecursion}
 use Rattle.std.proofs.lemmas.List.{length-map}
@@ -24,8 +24,8 @@ use Rattle.ag_top.specs.Entries.{PlainEntry, publish, published}
 use Rattle.ag_top.specs.Machine.{State, start, undecided, tally}
 use Rattle.ag_top.specs.Store.{Kept, IsKept, Enters, entry, accepted, AreDifferent, listed}
 use Rattle.ag_top.specs.Commands.{Command, Publish, Settle, Report, Close, check, Said, Accepted, Answers, Serves, IsToldOf, Grows, text_of, listed_of, sought, revision_after, status_by}
-use Rattle.ag_top.specs.Stages.{Stage, RunsAll, StopsIn, SaysThen, status_at, EndsByVerdicts}
-use Rattle.ag_top.specs.Outcome.{text_all, IsTruly, IsCheckAnswer, IsCheckCut}
+use Rattle.ag_top.specs.Stages.{Stage, RunsAll, StopsIn, FailsIn, Partly, Broken, SaysThen, status_at, EndsByVerdicts}
+use Rattle.ag_top.specs.Outcome.{text_all, IsTruly, IsCheckAnswer, IsCheckBroken, IsCheckCut}
 use Rattle.ag_top.proofs.Serving.{grow_more, grow_none}
 use Rattle.ag_top.proofs.Telling.{told_named}
 
@@ -97,6 +97,54 @@ some_served p n (c ∷ cs) old new before now (inr r) =
       written = grow_more before r.1 now (text_of p s.said) (text_all p more.said) s.written more.written;
     }
 
+-- those of the first commands, where what is said of the last of them was written in part
+record ServedPartly (p : Package) (n : ℕ) (cs : List Command) (old new : Kept) (before now : Option (List ℕ)) : Type 0 where
+  done : List Command
+  ahead : List Command
+  all : cs ≡ done ++ ahead
+  entries : List PlainEntry
+  said : List Said
+  last : Said
+  history : new.history ≡ old.history ++ entries
+  commands : Serves (listed_of p) n done entries (said ++ last ∷ [])
+  taken : ℕ
+  short : taken < length (text_of p last)
+  written : Grows before now (text_all p said ++ take taken (text_of p last))
+
+partly_served : (p : Package) (n : ℕ) (cs : List Command) (old new : Kept) (before now : Option (List ℕ)) → FailsIn p n cs old new before now → ServedPartly p n cs old new before now
+partly_served p n [] old new before now r = absurd r
+partly_served p n (c ∷ cs) old new before now (inl b) = record {
+  done = c ∷ [];
+  ahead = cs;
+  all = refl;
+  entries = b.entries;
+  said = [];
+  last = b.said;
+  history = b.history;
+  commands = (b.entries, [], b.said, [], sym (append-nil b.entries), refl, b.answers, (refl, refl));
+  taken = b.partly.taken;
+  short = b.partly.short;
+  written = b.partly.written;
+}
+partly_served p n (c ∷ cs) old new before now (inr r) =
+    let s = r.2 in
+    let more = partly_served p (revision_after n c) cs r.0 new r.1 now r.3 in
+    let part = take more.taken (text_of p more.last) in
+    record {
+      done = c ∷ more.done;
+      ahead = more.ahead;
+      all = ap (λ (ds : List Command). c ∷ ds) more.all;
+      entries = s.entries ++ more.entries;
+      said = s.said ∷ more.said;
+      last = more.last;
+      history = more.history ∙ (ap (λ (h : List PlainEntry). h ++ more.entries) s.history ∙ append_assoc old.history s.entries more.entries);
+      commands = (s.entries, more.entries, s.said, more.said ++ more.last ∷ [], refl, refl, s.answers, more.commands);
+      taken = more.taken;
+      short = more.short;
+      written = subst (λ (t : List ℕ). Grows before now t) (sym (append_assoc (text_of p s.said) (text_all p more.said) part))
+          (grow_more before r.1 now (text_of p s.said) (text_all p more.said ++ part) s.written more.written);
+    }
+
 -- what is said is true
 says_truly : VerdictsCarryOver → (p : Package) → IsWellFormed p → (n : ℕ) (c : Command) (es : List PlainEntry) (said : Said) → Answers (listed_of p) n c es said → IsTruly p said
 says_truly carry p w n Publish es said a = subst (IsTruly p) (sym a.2) tt
@@ -162,6 +210,48 @@ check_cut p list n board end before now e h (inr r) k =
       written = some.written;
     }
 
+-- publishing, of which the first bytes were written
+published_broken : (p : Package) (list : List (Key × ProblemDraft)) (n : ℕ) (board : Kept) (before now : Option (List ℕ)) → list ≡ listed_of p
+    → Enters record { state = start; history = [] } board (publish list) (published (accepted n)) → Partly (texts.published 1 n 0 0) before now
+    → Broken p 0 Publish record { state = start; history = [] } board before now
+published_broken p list n board before now e h g = record {
+  entries = entry (publish (listed_of p)) (published (accepted n)) ∷ [];
+  said = Accepted (accepted n);
+  history = h.history ∙ ap (λ (l : List (Key × ProblemDraft)). entry (publish l) (published (accepted n)) ∷ []) e;
+  answers = (accepted n, refl, refl);
+  partly = g;
+}
+
+broken_from : (p : Package) (list : List (Key × ProblemDraft)) (n : ℕ) (board end : Kept) (before now : Option (List ℕ)) → list ≡ listed_of p
+    → Enters record { state = start; history = [] } board (publish list) (published (accepted n))
+    → ((end ≡ board) × Partly (texts.published 1 n 0 0) before now) ⊎ SaysThen (texts.published 1 n 0 0) (FailsIn p 1 (Settle ∷ Report ∷ Close ∷ []) board end) before now
+    → FailsIn p 0 check record { state = start; history = [] } end before now
+broken_from p list n board end before now e h (inl r) = inl (subst (λ (k : Kept). Broken p 0 Publish record { state = start; history = [] } k before now) (sym r.0) (published_broken p list n board before now e h r.1))
+broken_from p list n board end before now e h (inr r) = inr (board, r.between, published_first p list n board before r.between e h r.written, r.rest)
+
+-- a check of which the first bytes were written
+pub check_broken : VerdictsCarryOver → (p : Package) → IsWellFormed p → (list : List (Key × ProblemDraft)) (n : ℕ) (board end : Kept) (before now : Option (List ℕ)) → list ≡ listed_of p
+    → Enters record { state = start; history = [] } board (publish list) (published (accepted n))
+    → ((end ≡ board) × Partly (texts.published 1 n 0 0) before now) ⊎ SaysThen (texts.published 1 n 0 0) (FailsIn p 1 (Settle ∷ Report ∷ Close ∷ []) board end) before now
+    → IsKept end → IsCheckBroken p end.history before now
+check_broken carry p w list n board end before now e h r k =
+    let some = partly_served p 0 check record { state = start; history = [] } end before now (broken_from p list n board end before now e h r) in
+    let said : List Said = some.said ++ some.last ∷ [] in
+    let commands : Serves (listed_of p) 0 some.done end.history said = subst (λ (es : List PlainEntry). Serves (listed_of p) 0 some.done es said) (sym some.history) some.commands in
+    record {
+      legal = k.legal;
+      done = some.done;
+      ahead = some.ahead;
+      all = some.all;
+      said = some.said;
+      last = some.last;
+      commands = commands;
+      truly = All-from_recursion (IsTruly p) said (all_truly carry p w 0 some.done end.history said commands);
+      taken = some.taken;
+      short = some.short;
+      written = some.written;
+    }
+
 -- obligations that are fit are so as listed pairs
 pub fit_different : (p : Package) → AreFit (obligations_of p sought) → AreDifferent (listed_of p)
 fit_different p f i j d l m same =
@@ -198,3 +288,14 @@ pub memory_stop : (r : Result Tally Stop) (status : Status) → status ≡ statu
 memory_stop (Ok t) status e m = absurd (not_memory (t.refuted + t.inconsistent == 0) (t.unknown == 0) (sym e ∙ m))
 memory_stop (Err stops.Write) status e m = let x = sym e ∙ m in cc
 memory_stop (Err stops.Memory) status e m = refl
+
+not_write : (b c : Bool) → (if b then (if c then statuses.AllGood else statuses.Unknown) else statuses.Refuted) ≡ statuses.WriteFault → ⊥
+not_write true true e = cc
+not_write true false e = cc
+not_write false c e = cc
+
+-- the status of a write fault is that of a check that met one
+pub write_stop : (r : Result Tally Stop) (status : Status) → status ≡ status_at r → status ≡ statuses.WriteFault → IsErrOf r stops.Write
+write_stop (Ok t) status e m = absurd (not_write (t.refuted + t.inconsistent == 0) (t.unknown == 0) (sym e ∙ m))
+write_stop (Err stops.Write) status e m = refl
+write_stop (Err stops.Memory) status e m = let x = sym e ∙ m in cc

@@ -1,5 +1,5 @@
 -- What a run of the program promises, from the words and the bytes that were read to the bytes that were written.
-use Rattle.std.specs.Prelude.{◌≡◌, ◌⊎◌, ◌<◌, ◌≤◌, ◌++◌, ◌∷◌, [], ℕ, List, length, All, Option, IfSome, codes}
+use Rattle.std.specs.Prelude.{◌≡◌, ◌⊎◌, ◌<◌, ◌≤◌, ◌++◌, ◌∷◌, [], ℕ, List, length, take, All, Option, IfSome, codes}
 use Rattle.std.specs.List.{flat_map}
 use Rattle.ag_base.specs.declared.status.Status.{Status}
 use Rattle.ag_small.specs.declared.package.Package.{Package}
@@ -8,6 +8,7 @@ use Rattle.ag_small.specs.Named.{IsTrueOfNamed}
 use Rattle.ag_top.specs.Entries.{PlainEntry}
 use Rattle.ag_top.specs.Machine.{start, state_after, IsLegal, undecided, tally}
 use Rattle.ag_top.specs.Store.{listed}
+use Rattle.ag_top.specs.Stages.{Partly}
 use Rattle.ag_top.specs.Commands.{Command, check, Said, Accepted, AllSettled, Told, Shut, text_of, listed_of, sought, Serves, IsToldOf, Grows, status_by}
 
 -- the words of the one command
@@ -148,3 +149,23 @@ pub record IsTextRefused (text : List ℕ) (history : List PlainEntry) (before n
   pub none : (p : Package) → Reads text p → ⊥
   pub written : Grows before now not_built_text
   pub empty : history ≡ []
+
+-- of what a text gives only the first bytes were written: of its check, or of its refusal
+abbrev pub IsTextBroken : List ℕ → List PlainEntry → Option (List ℕ) → Option (List ℕ) → Type 0
+IsTextBroken text history before now =
+    ((p : Package) × Reads text p × IsCheckBroken p history before now)
+    ⊎ (((p : Package) → Reads text p → ⊥) × Partly not_built_text before now × (history ≡ []))
+
+-- of what a check of the source gives only the first bytes were written
+pub record IsReadBroken (words : List (List ℕ)) (left : Option (List ℕ)) (history : List PlainEntry) (before now : Option (List ℕ)) : Type 0 where
+  pub command : IsCheck words
+  pub text : List ℕ
+  pub read : IsTextOf left text
+  pub cause : ((4194304 < length text) × Partly too_long_text before now × (history ≡ []))
+      ⊎ ((length text ≤ 4194304) × IsTextBroken text history before now)
+
+-- of what the words ask for only the first bytes were written
+abbrev pub IsBroken : List (List ℕ) → Option (List ℕ) → List PlainEntry → Option (List ℕ) → Option (List ℕ) → Type 0
+IsBroken words left history before now =
+    ((IsCheck words → ⊥) × Partly usage_text before now × (history ≡ []))
+    ⊎ IsReadBroken words left history before now

@@ -3,8 +3,8 @@ ghost use Rattle.std.specs.Prelude.{◌≡◌, ◌≢◌, ◌↔◌, ◌⊎◌, 
 ghost use Rattle.ag_base.specs.Outside.{Rose};
 ghost use Rattle.ag_base.specs.declared.status.Status.TheVariants as statuses;
 ghost use Rattle.ag_top.specs.Commands.{Grows};
-ghost use Rattle.ag_top.specs.Stages.{EndsByVerdicts, IsEndOfText};
-ghost use Rattle.ag_top.specs.Outcome.{IsCheck, IsUsage, IsRefusal, IsAnswer, IsUnfinished, IsNothing, IsTextAnswer, IsTextRefused, IsTextCut};
+ghost use Rattle.ag_top.specs.Stages.{EndsByVerdicts, IsEndOfText, Partly};
+ghost use Rattle.ag_top.specs.Outcome.{IsCheck, IsUsage, IsRefusal, IsAnswer, IsUnfinished, IsNothing, IsTextAnswer, IsTextRefused, IsTextCut, IsTextBroken, IsBroken};
 
 use crate::check::{Done, check, ended};
 use crate::read::{TextFault, read_text};
@@ -38,6 +38,7 @@ fn is_check(words: &[Text]) -> bool
 fn refuse<K: Sink>(alloc: Global, sink: &mut K, text: &str, status: Status) -> Done
     ensures ends { (result.status ≡ status) ⊎ (result.status ≡ statuses.WriteFault) }
     ensures written { (result.status ≡ statuses.WriteFault → ⊥) → Grows (K.written sink.old) (K.written sink.new) text.now }
+    ensures partly { (status ≡ statuses.WriteFault → ⊥) → result.status ≡ statuses.WriteFault → Partly text.now (K.written sink.old) (K.written sink.new) }
     ensures write { (status ≡ statuses.WriteFault → ⊥) → result.status ≡ statuses.WriteFault → Rose (K.faults sink.old) (K.faults sink.new) }
     ensures history { result.history ≡ [] }
 {
@@ -53,6 +54,7 @@ fn check_text<K: Sink>(alloc: Global, text: &[u8], sink: &mut K) -> Done
     ensures answer { EndsByVerdicts result.status → IsTextAnswer text.now result.history result.status (K.written sink.old) (K.written sink.new) }
     ensures refused { result.status ≡ statuses.ModelRefused → IsTextRefused text.now result.history (K.written sink.old) (K.written sink.new) }
     ensures memory { result.status ≡ statuses.OutOfMemory → IsNothing result.history (K.written sink.old) (K.written sink.new) ⊎ IsTextCut text.now result.history (K.written sink.old) (K.written sink.new) }
+    ensures broken { result.status ≡ statuses.WriteFault → IsTextBroken text.now result.history (K.written sink.old) (K.written sink.new) }
     ensures write { result.status ≡ statuses.WriteFault → Rose (K.faults sink.old) (K.faults sink.new) }
     ensures only { IsEndOfText result.status }
 {
@@ -87,6 +89,9 @@ pub fn agree<R: Threads + Wait + Sync, S: Source, K: Sink, F: Folder>(
     // A fault is told only where its count rose.
     ensures read_fault { result.status ≡ statuses.ReadFault → IsCheck words.now × Rose (S.faults source.old) (S.faults source.new) × IsNothing result.history (K.written sink.old) (K.written sink.new) }
     ensures write_fault { result.status ≡ statuses.WriteFault → Rose (K.faults sink.old) (K.faults sink.new) }
+
+    // Of what would have been written the first bytes were.
+    ensures broken { result.status ≡ statuses.WriteFault → IsBroken words.now (S.left source.old) result.history (K.written sink.old) (K.written sink.new) }
 
     // For want of memory nothing was written, or the replies to the first commands.
     ensures memory { result.status ≡ statuses.OutOfMemory → IsNothing result.history (K.written sink.old) (K.written sink.new) ⊎ IsUnfinished words.now (S.left source.old) result.history (K.written sink.old) (K.written sink.new) }

@@ -2,7 +2,7 @@ use Rattle.std.proofs.Common.{◌∙◌, [], inr}
 use Rattle.ag_top.specs.Entries.{plain_list, publish, published}
 use Rattle.ag_top.specs.Machine.{start}
 use Rattle.ag_top.specs.Store.{Enters, accepted}
-use Rattle.ag_top.proofs.Checking.{check_answers, check_cut, fit_different, fit_plain, by_verdicts, memory_stop}
+use Rattle.ag_top.proofs.Checking.{check_answers, check_cut, check_broken, fit_different, fit_plain, by_verdicts, memory_stop, write_stop}
 use Rattle.ag_top.proofs.check.check.Given as given
 use Rattle.ag_top.proofs.check.check.Goals as goal
 
@@ -26,3 +26,8 @@ pub returns-clause-memory : goal.returns-clause-memory
 returns-clause-memory g c = λ m.
     inr (rw c.into_history.ensures (check_cut c.args.package.now (plain_list c.in-Ok.list) c.len-count.result c.in-Ok-publish.board c.accepted_first-end.new.board _ _ c.in-Ok.ensures (published_count g c)
     (c.accepted_first-end.ensures.memory (memory_stop c.accepted_first-end.result c.status_of.result c.status_of.ensures m)) c.know.ensures))
+
+pub returns-clause-broken : goal.returns-clause-broken
+returns-clause-broken g c = λ m.
+    rw c.into_history.ensures (check_broken c.verdicts_carry_over.ensures c.args.package.now c.requires (plain_list c.in-Ok.list) c.len-count.result c.in-Ok-publish.board c.accepted_first-end.new.board _ _ c.in-Ok.ensures (published_count g c)
+    (c.accepted_first-end.ensures.broken (write_stop c.accepted_first-end.result c.status_of.result c.status_of.ensures m)) c.know.ensures)
