@@ -42,12 +42,12 @@ fn not_above(alloc: Global) -> Result<LRow, OutOfMemory>
     Ok(LRow { terms, bound: 0 })
 }
 
-// The row 2x <= 5.
-fn twice(alloc: Global) -> Result<LRow, OutOfMemory>
+// The row of 2x and a bound.
+fn twice(alloc: Global, bound: i128) -> Result<LRow, OutOfMemory>
     ensures { IfOk result (λ row. row.terms ≡ record { var = 0; factor = pos 2 } ∷ []) }
 {
     let terms = Terms::make(alloc, &[LTerm { var: 0, factor: 2 }])?;
-    Ok(LRow { terms, bound: 5 })
+    Ok(LRow { terms, bound })
 }
 
 // Both rows hold, and an atom speaks of a third.
@@ -55,7 +55,7 @@ fn rows(alloc: Global) -> Result<Query, OutOfMemory> {
     let mut atoms = List::new(alloc);
     atoms.push(Atom::Bound(below(alloc)?))?;
     atoms.push(Atom::Bound(not_above(alloc)?))?;
-    atoms.push(Atom::Bound(twice(alloc)?))?;
+    atoms.push(Atom::Bound(twice(alloc, 5)?))?;
     let mut clauses = List::new(alloc);
     clauses.push(clause(alloc, &[lit(0, true)])?)?;
     clauses.push(clause(alloc, &[lit(1, true)])?)?;
@@ -83,11 +83,11 @@ fn refutation(kernel: &mut Kernel) -> Result<u32, KernelFault> {
     kernel.combine(&[(first, 1), (second, 1)])
 }
 
-// The third row, or what holds where it doesn't, divided by 2.
-fn halved(kernel: &mut Kernel, holds: bool) -> Result<u32, KernelFault>
+// The literal's row, or what holds where it doesn't, divided by 2.
+fn halved(kernel: &mut Kernel, of: Lit) -> Result<u32, KernelFault>
     ensures { IfOk result (λ n. n < length kernel.new.lines) }
 {
-    let row = kernel.unfold(lit(2, holds))?;
+    let row = kernel.unfold(of)?;
     kernel.divide(row, 2)
 }
 
@@ -106,10 +106,16 @@ fn refutes_two_rows(rt: HostRuntime) -> Result<(), Fail> {
 fn rounds_down(rt: HostRuntime) -> Result<(), Fail> {
     let alloc = rt.alloc();
     let mut kernel = Kernel::new(alloc, &rows(alloc)?)?;
-    for (holds, bound) in [(true, 2), (false, -3)] {
-        let half = halved(&mut kernel, holds)?;
+    kernel.cases(twice(alloc, 4)?)?;
+    for (of, factor, bound) in [
+        (lit(2, true), 1, 2),
+        (lit(2, false), -1, -3),
+        (lit(3, false), -1, -3),
+    ] {
+        let half = halved(&mut kernel, of)?;
         let row = kernel.line(half).row.as_ref().ok_or("no row")?;
-        assert_eq!(rt; row.bound, bound, "at {holds}");
+        assert_eq!(rt; row.terms.as_slice(), [LTerm { var: 0, factor }].as_slice());
+        assert_eq!(rt; row.bound, bound);
     }
     Ok(())
 }
@@ -119,6 +125,7 @@ fn refuses(rt: HostRuntime) -> Result<(), Fail> {
     let alloc = rt.alloc();
     let mut kernel = Kernel::new(alloc, &rows(alloc)?)?;
     assert_eq!(rt; kernel.resolve(99, 98, 0), Err(KernelFault::NotThere(99)));
+    assert_eq!(rt; kernel.resolve(0, 99, 0), Err(KernelFault::NotThere(99)));
     let row = kernel.unfold(lit(2, true))?;
     assert_eq!(rt; kernel.divide(row, 3), Err(KernelFault::NotImplied));
     assert_eq!(rt; kernel.combine(&[(row, -1)]), Err(KernelFault::NotImplied));
@@ -129,7 +136,7 @@ fn refuses(rt: HostRuntime) -> Result<(), Fail> {
 fn stays_in_128_bits(rt: HostRuntime) -> Result<(), Fail> {
     let alloc = rt.alloc();
     let mut kernel = Kernel::new(alloc, &rows(alloc)?)?;
-    let half = halved(&mut kernel, true)?;
+    let half = halved(&mut kernel, lit(2, true))?;
     let great = kernel.combine(&[(half, 85070591730234615865843651857942052863)])?;
     assert_eq!(rt; kernel.combine(&[(great, 8)]), Err(KernelFault::Wide));
     Ok(())
@@ -149,7 +156,7 @@ fn goes_by_units(rt: HostRuntime) -> Result<(), Fail> {
 fn splits_into_cases(rt: HostRuntime) -> Result<(), Fail> {
     let alloc = rt.alloc();
     let mut kernel = Kernel::new(alloc, &rows(alloc)?)?;
-    let case = kernel.cases(twice(alloc)?)?;
+    let case = kernel.cases(twice(alloc, 5)?)?;
     let lits = kernel.line(case).lits.as_slice();
     assert_eq!(rt; lits, [lit(3, true), lit(3, false)].as_slice());
     Ok(())
