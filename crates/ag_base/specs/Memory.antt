@@ -1,5 +1,5 @@
 -- The outside in memory: what is seen of each form, and what each of its calls answers and leaves.
-use Rattle.std.specs.Prelude.{◌+◌, ◌-◌, ◌^◌, ◌∷◌, [], ◌==◌, ◌&&◌, ℕ, Bool, true, not, if◌then◌else◌, List, length, drop, min, nat_eq, Option, Some, None}
+use Rattle.std.specs.Prelude.{◌+◌, ◌-◌, ◌^◌, ◌∷◌, [], ◌==◌, ◌&&◌, ℕ, Bool, true, not, if◌then◌else◌, List, length, min, nat_eq, Option, Some, None}
 use Rattle.std.specs.List.{list_any}
 use Rattle.std.specs.Cmp.Lexicographic.{pointwise}
 use Rattle.ag_base.specs.declared.outside.File.{File}

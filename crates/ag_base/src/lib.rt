@@ -5,6 +5,7 @@
 //! give and take exactly the bytes that they were made with. Start at `outside`.
 #![tactic(auto)]
 
+pub mod halt;
 pub mod limits;
 pub mod list;
 pub mod memory;
@@ -13,6 +14,7 @@ pub mod place;
 pub mod status;
 pub mod text;
 
+pub use halt::{AfterPolls, Halt, Never};
 pub use limits::Limits;
 pub use list::{Bytes, List};
 pub use memory::{MemFolder, MemSink, MemSource};
@@ -30,6 +32,14 @@ use std::alloc::{AllocError, AllocFailed};
 #[derive(Clone, Copy, Debug, PartialEq, Eq)]
 pub struct OutOfMemory;
 
+/// Why a call that asks a halt ended early.
+#[derive(Clone, Copy, Debug, PartialEq, Eq)]
+pub enum Halted {
+    /// The halt said yes.
+    Stopped,
+    OutOfMemory,
+}
+
 impl From<AllocError> for OutOfMemory {
     fn from(_e: AllocError) -> OutOfMemory {
         OutOfMemory
@@ -39,5 +49,27 @@ impl From<AllocError> for OutOfMemory {
 impl<T: Drop> From<AllocFailed<T>> for OutOfMemory {
     fn from(_e: AllocFailed<T>) -> OutOfMemory {
         OutOfMemory
+    }
+}
+
+impl From<OutOfMemory> for Halted {
+    ghost use Rattle.std.specs.Prelude.{◌≡◌};
+    ghost use Rattle.ag_base.specs.declared.Halted.TheVariants.{OutOfMemory as Memory};
+
+    ghost from_gives = { λ _ halted. halted ≡ Memory };
+
+    fn from(_e: OutOfMemory) -> Halted {
+        Halted::OutOfMemory
+    }
+}
+
+impl From<AllocError> for Halted {
+    ghost use Rattle.std.specs.Prelude.{◌≡◌};
+    ghost use Rattle.ag_base.specs.declared.Halted.TheVariants.{OutOfMemory as Memory};
+
+    ghost from_gives = { λ _ halted. halted ≡ Memory };
+
+    fn from(_e: AllocError) -> Halted {
+        Halted::OutOfMemory
     }
 }

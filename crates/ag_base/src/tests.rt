@@ -1,7 +1,7 @@
 //! What no contract can say: that memory suffices for small things.
 use crate::{
-    Bytes, File, Folder, FolderFault, Limits, List, MemFolder, MemSink, MemSource, Sink, Source,
-    Status, Text,
+    AfterPolls, Bytes, File, Folder, FolderFault, Halt, Limits, List, MemFolder, MemSink,
+    MemSource, Never, Sink, Source, Status, Text,
 };
 use std::alloc::Global;
 use std::test::Fail;
@@ -64,4 +64,15 @@ fn limits_and_statuses(rt: HostRuntime) {
     assert!(rt; Limits::make(31, 1, 100, 1, 0).is_none());
     assert_eq!(rt; Limits::usual().depth, 10);
     assert_eq!(rt; Status::SessionRefused.code(), 8);
+}
+
+#[test]
+fn halts_say_yes_when_asked(rt: HostRuntime) {
+    for (n, first) in [(0, 1), (1, 1), (3, 3)] {
+        let mut halt = AfterPolls::make(n);
+        for poll in 1..6 {
+            assert_eq!(rt; halt.poll(), first <= poll);
+        }
+    }
+    assert!(rt; !Never.poll());
 }

@@ -9,3 +9,4 @@ pub mod Rules
 pub mod Units
 pub mod Sums
 pub mod Steps
+pub mod Theories

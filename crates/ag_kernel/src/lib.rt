@@ -12,10 +12,12 @@ mod marks;
 mod resolve;
 mod rows;
 mod sums;
+pub mod theory;
 mod units;
 
 pub use kernel::Kernel;
 pub use line::{KernelFault, Line};
+pub use theory::{Found, Theory};
 
 #[cfg(test)]
 mod tests;
