@@ -9,7 +9,7 @@ mod report;
 mod run;
 mod table;
 
-pub use lines::{closed_line, published_line, settled_line};
+pub use lines::{closed_line, published_line, refused_line, settled_line};
 pub use report::report_text;
 
 #[cfg(test)]

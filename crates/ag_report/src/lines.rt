@@ -1,9 +1,9 @@
 //! Replies of one line.
 ghost use Rattle.std.specs.Prelude.{◌≡◌, ◌++◌, decimal, IfOk, OnOk};
 ghost use Rattle.std.specs.String.{string_bytes};
-ghost use Rattle.ag_report.specs.Texts.{published, settled, closed};
+ghost use Rattle.ag_report.specs.Texts.{published, refused, settled, closed};
 
-use ag_base::{Bytes, List, OutOfMemory};
+use ag_base::{Bytes, List, OutOfMemory, Place};
 use std::alloc::Global;
 
 /// A revision was published: how many obligations it has, how many of them kept an earlier verdict,
@@ -20,6 +20,15 @@ pub fn published_line(
     let text = format!(in alloc;
         "revision {revision}: {count} obligations, {carried} carried, {cancelled} cancelled\n"
     )?;
+    Ok(List::from_vec(text.into_bytes()))
+}
+
+/// The text of the source departs at this place from what this version reads.
+pub fn refused_line(alloc: Global, place: Place) -> Result<Bytes, OutOfMemory>
+    ensures { IfOk result (λ text. text ≡ refused place) }
+{
+    let Place { line, column, .. } = place;
+    let text = format!(in alloc; "refused -:{line}:{column} NotBuilt\n")?;
     Ok(List::from_vec(text.into_bytes()))
 }
 

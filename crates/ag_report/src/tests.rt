@@ -1,6 +1,6 @@
 //! Texts of runs that were worked out by hand.
-use crate::{closed_line, published_line, report_text, settled_line};
-use ag_base::{Bytes, List, Text};
+use crate::{closed_line, published_line, refused_line, report_text, settled_line};
+use ag_base::{Bytes, List, Place, Text};
 use ag_stream::{Instant, Run, Window};
 use ag_verdict::{Key, KeyKind, Verdict, Which, Why};
 use std::alloc::Global;
@@ -124,7 +124,13 @@ fn a_report_of_each_answer(rt: HostRuntime) -> Result<(), Fail> {
 #[test]
 fn replies_of_one_line(rt: HostRuntime) -> Result<(), Fail> {
     let alloc = rt.alloc();
-    let rows: [(Bytes, &str); 3] = [
+    let departed = Place {
+        file: 0,
+        line: 16,
+        column: 30,
+    };
+    let rows: [(Bytes, &str); 4] = [
+        (refused_line(alloc, departed)?, "refused -:16:30 NotBuilt\n"),
         (
             published_line(alloc, 2, 12, 3, 1)?,
             "revision 2: 12 obligations, 3 carried, 1 cancelled\n",

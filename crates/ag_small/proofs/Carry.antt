@@ -1,5 +1,5 @@
 -- Named runs and numbered runs, and what is true of both.
-use Rattle.std.proofs.Common.{◌≡◌, ℕ, ◌+◌, ◌<◌, Bool, true, false, not, List, [], ◌∷◌, length, map, get_or, Option, Some, None, refl, sym, ap, ◌∙◌, arith, All}
+use Rattle.std.proofs.Common.{◌≡◌, ℕ, ◌+◌, ◌<◌, Bool, true, false, not, List, [], ◌∷◌, length, map, get_or, Option, Some, None, refl, sym, ap, subst, ◌∙◌, arith, All}
 use Rattle.std.specs.Prelude.{IsSomeAnd}
 use Rattle.std.specs.List.{list_any, AllByRecursion, AllZip}
 use Rattle.std.specs.Char.{to_ascii_lowercase}
@@ -17,15 +17,15 @@ use Rattle.ag_small.specs.declared.package.Claim.{Claim}
 use Rattle.ag_small.specs.declared.package.ClaimKind.TheVariants.{Assume}
 use Rattle.ag_small.specs.declared.package.Assign.{Assign}
 use Rattle.ag_small.specs.declared.package.Formula.{Formula}
-use Rattle.ag_small.specs.declared.package.Formula.TheVariants.{Truth}
 use Rattle.ag_small.specs.Characters.{folded, same}
 use Rattle.ag_small.specs.Rules.{IsWellFormed, names_port, ports_differ, all_names}
 use Rattle.ag_small.specs.Named.{NamedInstant, value_at, formula_holds, KeepsAssign, KeepsAssigns, KeepsAssumptions, IsNamedRunOfPremises, BreaksNamed, claimed, stand_in, StandsFor}
-use Rattle.ag_small.specs.Numbered.{stream_of, part_of, formulas, equations_from, numbers_from, draft_of}
+use Rattle.ag_small.specs.Numbered.{stream_of, formulas, parts_in, all_parts, claim_parts, equations_from, numbers_from, draft_of}
 use Rattle.ag_small.proofs.Terminals.{same_is, is_same}
 use Rattle.ag_small.proofs.Streams.{stream_later}
-use Rattle.ag_small.proofs.Formed.{length_mapped, length-formulas, assign_names, formula_names, assign_part, claim_part}
-use Rattle.ag_small.proofs.Meaning.{IsMoment, holds_is, equations_say, numbers_say, IsClaimAt}
+use Rattle.ag_small.proofs.Formed.{length_mapped, assign_names, formula_names}
+use Rattle.ag_small.proofs.Numbering.{parts_in-claims}
+use Rattle.ag_small.proofs.Meaning.{IsMoment, Says, parts_say, says_split, equations_say, numbers_say, IsClaimAt, claim_says}
 
 -- ---- lists that go together
 
@@ -58,54 +58,45 @@ module _ {X Y : Type 0} (R : X → Y → Type 0) (P : X → Type 0) (Q : Y → T
   zip_last_back f (x ∷ w ∷ xs) (y ∷ []) z h = absurd z.1
   zip_last_back f (x ∷ w ∷ xs) (y ∷ v ∷ ys) z h = zip_last_back f (w ∷ xs) (v ∷ ys) z.1 h
 
-zero_plus : (n : ℕ) → 0 + n ≡ n
-zero_plus n = omega arith
-
-some_claim : Claim
-some_claim = record { kind = Assume; label = []; formula = Truth false }
-
 -- ---- one instant
 
 module _ (p : Package) (claim : Option ℕ) (sought : ℕ) (kept : IsWellFormed p) (m : Moment) (i : NamedInstant) (at : IsMoment p m i) where
   abbrev pub truth_at : ℕ → Bool
-  truth_at k = holds m (map (part_of p.ports) (formulas p)) k
+  truth_at k = holds m (all_parts p.ports 0 (formulas p)) k
 
-  names_fit : AllByRecursion (λ f. all_names (names_port p.ports) f ≡ true) (formulas p)
-  names_fit = recursion_from_All (λ f. all_names (names_port p.ports) f ≡ true) (formulas p) (formula_names p kept)
+  say_apart : Says i truth_at 0 (map (λ c. c.formula) p.claims) × Says i truth_at (0 + parts_in (map (λ c. c.formula) p.claims)) (map (λ a. a.value) p.assigns)
+  say_apart =
+      says_split i truth_at 0 (map (λ (c : Claim). c.formula) p.claims) (map (λ (a : Assign). a.value) p.assigns)
+      (parts_say p m i (formulas p) at (recursion_from_All (λ f. all_names (names_port p.ports) f ≡ true) (formulas p) (formula_names p kept)))
 
-  assign_truth : (j : ℕ) (d : Assign) → j < length p.assigns → truth_at (length p.claims + j) ≡ formula_holds i (get_or p.assigns j d).value
-  assign_truth j d lt =
-      holds_is p m i (formulas p) (length p.claims + j) (get_or p.assigns j d).value at names_fit (omega (arith, length-formulas p))
-      ∙ ap (formula_holds i) (assign_part p j d (get_or p.assigns j d).value lt)
+  claims_say : Says i truth_at 0 (map (λ c. c.formula) p.claims)
+  claims_say = say_apart.0
 
-  claim_truth : (j : ℕ) (d : Claim) → j < length p.claims → truth_at j ≡ formula_holds i (get_or p.claims j d).formula
-  claim_truth j d lt =
-      holds_is p m i (formulas p) j (get_or p.claims j d).formula at names_fit (omega (arith, length-formulas p))
-      ∙ ap (formula_holds i) (claim_part p j d (get_or p.claims j d).formula lt)
+  assigns_say : Says i truth_at (claim_parts p.claims) (map (λ a. a.value) p.assigns)
+  assigns_say = subst (λ (n : ℕ). Says i truth_at n (map (λ (a : Assign). a.value) p.assigns)) (omega (arith, parts_in-claims p.claims)) say_apart.1
 
   pub equations_to : KeepsEquations (draft_of p claim sought) m → KeepsAssigns p i
   equations_to h =
-      let say = equations_say p m i truth_at at (length p.claims) p.assigns (recursion_from_All (λ a. names_port p.ports a.name ≡ true) p.assigns (assign_names p kept)) assign_truth in
-      All-from_recursion (KeepsAssign i) p.assigns (say.0 (recursion_from_All (Keeps m truth_at) (equations_from p.ports (length p.claims) p.assigns) h))
+      let say = equations_say p m i truth_at at (claim_parts p.claims) p.assigns (recursion_from_All (λ a. names_port p.ports a.name ≡ true) p.assigns (assign_names p kept)) assigns_say in
+      All-from_recursion (KeepsAssign i) p.assigns (say.0 (recursion_from_All (Keeps m truth_at) (equations_from p.ports (claim_parts p.claims) p.assigns) h))
 
   pub equations_from_named : KeepsAssigns p i → KeepsEquations (draft_of p claim sought) m
   equations_from_named h =
-      let say = equations_say p m i truth_at at (length p.claims) p.assigns (recursion_from_All (λ a. names_port p.ports a.name ≡ true) p.assigns (assign_names p kept)) assign_truth in
-      All-from_recursion (Keeps m truth_at) (equations_from p.ports (length p.claims) p.assigns) (say.1 (recursion_from_All (KeepsAssign i) p.assigns h))
+      let say = equations_say p m i truth_at at (claim_parts p.claims) p.assigns (recursion_from_All (λ a. names_port p.ports a.name ≡ true) p.assigns (assign_names p kept)) assigns_say in
+      All-from_recursion (Keeps m truth_at) (equations_from p.ports (claim_parts p.claims) p.assigns) (say.1 (recursion_from_All (KeepsAssign i) p.assigns h))
 
   pub so_far_to : AllHold (draft_of p claim sought) (numbers_from Assume 0 p.claims) m → KeepsAssumptions p i
   so_far_to h =
-      let say = numbers_say p m i truth_at at Assume 0 p.claims (λ j d lt. ap truth_at (zero_plus j) ∙ claim_truth j d lt) in
+      let say = numbers_say p m i truth_at at Assume 0 p.claims claims_say in
       All-from_recursion (λ f. formula_holds i f ≡ true) (claimed Assume p) (say.0 (recursion_from_All (λ part. truth_at part ≡ true) (numbers_from Assume 0 p.claims) h))
 
   pub so_far_from_named : KeepsAssumptions p i → AllHold (draft_of p claim sought) (numbers_from Assume 0 p.claims) m
   so_far_from_named h =
-      let say = numbers_say p m i truth_at at Assume 0 p.claims (λ j d lt. ap truth_at (zero_plus j) ∙ claim_truth j d lt) in
+      let say = numbers_say p m i truth_at at Assume 0 p.claims claims_say in
       All-from_recursion (λ part. truth_at part ≡ true) (numbers_from Assume 0 p.claims) (say.1 (recursion_from_All (λ f. formula_holds i f ≡ true) (claimed Assume p) h))
 
   pub claim_is : (part : ℕ) (f : Formula) → IsClaimAt p.claims 0 part f → truth_at part ≡ formula_holds i f
-  claim_is part f c =
-      ap truth_at (c.part_is ∙ zero_plus c.from) ∙ claim_truth c.from some_claim c.inside ∙ ap (formula_holds i) (c.formula_is some_claim)
+  claim_is part f c = claim_says i truth_at 0 p.claims part f claims_say c
 
 -- ---- runs
 
@@ -171,7 +162,7 @@ module _ (p : Package) (part sought : ℕ) (f : Formula) (kept : IsWellFormed p)
   pub breaks_of : BreaksNamed p f named → Breaks (draft_of p (Some part) sought) (numbered p named)
   breaks_of h = record {
     premises = premises_of p (Some part) sought kept named h.premises;
-    earlier = λ k d lt. All-nil (λ n. holds (get_or (front (moments_of (numbered p named))) k d) (map (part_of p.ports) (formulas p)) n ≡ true);
+    earlier = λ k d lt. All-nil (λ n. holds (get_or (front (moments_of (numbered p named))) k d) (all_parts p.ports 0 (formulas p)) n ≡ true);
     claim = zip_last_back (IsMoment p) (ClaimIs (draft_of p (Some part) sought) false) (λ i. formula_holds i f ≡ false)
         (λ m i now e. claim_is p (Some part) sought kept m i now part f at ∙ e) (moments_of (numbered p named)) named (moments_zip p None named) h.fails;
   }

@@ -17,10 +17,11 @@ use Rattle.ag_small.specs.declared.package.ClaimKind.{ClaimKind}
 use Rattle.ag_small.specs.declared.package.ClaimKind.TheVariants.{Guarantee}
 use Rattle.ag_small.specs.Rules.{IsWellFormed}
 use Rattle.ag_small.specs.Named.{is_of}
-use Rattle.ag_small.specs.Numbered.{numbers_from, draft_of, key_of, guarantees_from}
+use Rattle.ag_small.specs.Numbered.{part_count, own_part, numbers_from, draft_of, key_of, guarantees_from}
 use Rattle.ag_small.specs.Carried.{ObligationsAreFit}
 use Rattle.ag_small.proofs.Formed.{plain, length-numbers_from}
 use Rattle.ag_small.proofs.Laws.{few_clauses}
+use Rattle.ag_small.proofs.Numbering.{some_parts}
 
 abbrev Apart : Obligation → Obligation → Type 0
 Apart a b = a.problem ≢ b.problem
@@ -30,17 +31,17 @@ abbrev Rises : List ℕ → Type 0
 Rises [] = Unit {0}
 Rises (n ∷ ns) = AllByRecursion (λ m. n < m) ns × Rises ns
 
-numbers_above : (kind : ClaimKind) (low number : ℕ) (cs : List Claim) → low < number → AllByRecursion (λ n. low < n) (numbers_from kind number cs)
-numbers_above kind low number [] lt = tt
-numbers_above kind low number (c ∷ cs) lt =
-    let rest = numbers_above kind low (number + 1) cs (omega arith) in
-    elim (cases_Bool (is_of kind c.kind)) [ inl yes' ↦ rw yes' (lt, rest) | inr no' ↦ rw no' rest ]
+numbers_above : (kind : ClaimKind) (low first : ℕ) (cs : List Claim) → low < first → AllByRecursion (λ n. low < n) (numbers_from kind first cs)
+numbers_above kind low first [] lt = tt
+numbers_above kind low first (c ∷ cs) lt =
+    let rest = numbers_above kind low (first + part_count c.formula) cs (omega arith) in
+    elim (cases_Bool (is_of kind c.kind)) [ inl yes' ↦ rw yes' (omega (arith, some_parts c.formula), rest) | inr no' ↦ rw no' rest ]
 
-numbers_rise : (kind : ClaimKind) (number : ℕ) (cs : List Claim) → Rises (numbers_from kind number cs)
-numbers_rise kind number [] = tt
-numbers_rise kind number (c ∷ cs) =
-    let rest = numbers_rise kind (number + 1) cs in
-    let above = numbers_above kind number (number + 1) cs (omega arith) in
+numbers_rise : (kind : ClaimKind) (first : ℕ) (cs : List Claim) → Rises (numbers_from kind first cs)
+numbers_rise kind first [] = tt
+numbers_rise kind first (c ∷ cs) =
+    let rest = numbers_rise kind (first + part_count c.formula) cs in
+    let above = numbers_above kind (own_part first c.formula) (first + part_count c.formula) cs (omega (arith, some_parts c.formula)) in
     elim (cases_Bool (is_of kind c.kind)) [ inl yes' ↦ rw yes' (above, rest) | inr no' ↦ rw no' rest ]
 
 claims_apart : (p : Package) (m n : ℕ) → m < n → draft_of p (Some m) 0 ≢ draft_of p (Some n) 0

@@ -1,12 +1,12 @@
 -- The numbered problems of a package that keeps the rules are well formed, plain and without a cycle.
-use Rattle.std.proofs.Common.{◌≡◌, ℕ, zero, suc, ◌+◌, ◌<◌, ◌≤◌, Bool, true, false, ◌||◌, ◌⊎◌, List, [], ◌∷◌, ◌++◌, length, map, get_or, take, Option, Some, None, refl, sym, ap, subst, ◌∙◌, inl, inr, arith, All}
+use Rattle.std.proofs.Common.{◌≡◌, ℕ, zero, suc, ◌+◌, ◌-◌, ◌<◌, ◌≤◌, Bool, true, false, ◌&&◌, ◌||◌, append_assoc, ◌⊎◌, List, [], ◌∷◌, ◌++◌, length, map, get_or, take, drop, Option, Some, None, refl, sym, ap, subst, ◌∙◌, inl, inr, arith, All}
 use Rattle.std.specs.Prelude.{IfSome, MatchOption, nat_eq, slice_get, Contains}
-use Rattle.std.specs.List.{list_all, list_any, flat_map, AllByRecursion, IsDistinct}
+use Rattle.std.specs.List.{list_all, list_any, AllByRecursion, IsDistinct}
 use Rattle.std.proofs.lemmas.Bool.{cases_Bool, and_parts, or_cases, or_left, or_right, both_ways, ne_eqb, cases_order, false_from_ne_true}
-use Rattle.std.proofs.lemmas.List.{length-append, get_or-append-add, get_or_append_left, get_or-map, get_or-take, length-take, append-nil}
-use Rattle.std.proofs.lemmas.List.Elements.{All-from_recursion, recursion_from_All, All-nil, All-append, All-map, All-weaker}
-use Rattle.std.proofs.lemmas.Option.{slice_get-get_or}
+use Rattle.std.proofs.lemmas.List.{length-append, get_or-take, length-take, append-nil}
+use Rattle.std.proofs.lemmas.List.Elements.{All-from_recursion, recursion_from_All, All-nil, All-append, All-map}
 use Rattle.ag_stream.specs.declared.problem.Part.{Part}
+use Rattle.ag_stream.specs.declared.problem.Part.TheVariants as parts
 use Rattle.ag_stream.specs.declared.problem.Equation.{Equation}
 use Rattle.ag_stream.specs.declared.problem.Equation.TheVariants as equations
 use Rattle.ag_stream.specs.Forms.{IsPartOf, IsEquationOf, operands, target, IsPlain, IsPlainPart, IsFlagEquation}
@@ -19,21 +19,31 @@ use Rattle.ag_small.specs.declared.package.ClaimKind.{ClaimKind}
 use Rattle.ag_small.specs.declared.package.ClaimKind.TheVariants.{Assume}
 use Rattle.ag_small.specs.declared.package.Assign.{Assign}
 use Rattle.ag_small.specs.declared.package.Formula.{Formula}
-use Rattle.ag_small.specs.declared.package.Formula.TheVariants.{Truth, Named}
+use Rattle.ag_small.specs.Expressions.{Truth, Named, Group, Not, And, Or, Implies}
 use Rattle.ag_small.specs.Characters.{same}
 use Rattle.ag_small.specs.Rules.{IsWellFormed, names_port, names_input, all_names, is_assigned, all_follow, may_follow}
 use Rattle.ag_small.specs.Named.{is_of}
-use Rattle.ag_small.specs.Numbered.{stream_of, part_of, formulas, equations_from, numbers_from, draft_of}
-use Rattle.ag_small.proofs.Laws.{few_clauses}
+use Rattle.ag_small.specs.Numbered.{stream_of, part_count, own_part, parts_of, formulas, parts_in, all_parts, claim_parts, equations_from, numbers_from, draft_of}
+use Rattle.ag_small.proofs.Numbering.{some_parts, length-parts_of, length-all_parts, parts_in-claims, parts_in-formulas, few_parts}
+use Rattle.ag_small.proofs.Placed.{AllFrom, from_append, from_weaker, from_at, IsNamedIn, IsOperand, IsOf, parts_are, none_twice}
 use Rattle.ag_small.proofs.Streams.{any_at, at_any, port_from_same, port_from_input, port_from_output, stream_below, same_from_stream, input_apart, Fits, fits_at, same_too, same_back, stream_later}
 
 pub all_from : {A : Type 0} (p : A → Bool) (xs : List A) → list_all p xs ≡ true → AllByRecursion (λ x. p x ≡ true) xs
 all_from p [] h = tt
 all_from p (x ∷ xs) h = let k = and_parts (p x) (list_all p xs) h in (k.0, all_from p xs k.1)
 
+both_weaker : (t u : List ℕ → Bool) (f g : Formula) → ((n : List ℕ) → t n ≡ true → u n ≡ true) → (all_names t f && all_names t g) ≡ true
+    → (all_names t f ≡ true → all_names u f ≡ true) → (all_names t g ≡ true → all_names u g ≡ true) → (all_names u f && all_names u g) ≡ true
+both_weaker t u f g w h one other = let k = and_parts (all_names t f) (all_names t g) h in rw (one k.0, other k.1) refl
+
 all_names_weaker : (t u : List ℕ → Bool) (f : Formula) → ((n : List ℕ) → t n ≡ true → u n ≡ true) → all_names t f ≡ true → all_names u f ≡ true
 all_names_weaker t u (Truth b) w h = h
 all_names_weaker t u (Named n) w h = w n h
+all_names_weaker t u (Group f) w h = all_names_weaker t u f w h
+all_names_weaker t u (Not f) w h = all_names_weaker t u f w h
+all_names_weaker t u (And f g) w h = both_weaker t u f g w h (λ k. all_names_weaker t u f w k) (λ k. all_names_weaker t u g w k)
+all_names_weaker t u (Or f g) w h = both_weaker t u f g w h (λ k. all_names_weaker t u f w k) (λ k. all_names_weaker t u g w k)
+all_names_weaker t u (Implies f g) w h = both_weaker t u f g w h (λ k. all_names_weaker t u f w k) (λ k. all_names_weaker t u g w k)
 
 -- ---- the assigns
 
@@ -86,64 +96,132 @@ length_mapped f (x ∷ xs) = ap suc (length_mapped f xs)
 pub length-formulas : (p : Package) → length (formulas p) ≡ length p.claims + length p.assigns
 length-formulas p = omega (arith, length-append (map (λ (c : Claim). c.formula) p.claims) (map (λ (a : Assign). a.value) p.assigns), length_mapped (λ (c : Claim). c.formula) p.claims, length_mapped (λ (a : Assign). a.value) p.assigns)
 
-pub length-parts : (p : Package) → length (map (part_of p.ports) (formulas p)) ≡ length p.claims + length p.assigns
-length-parts p = length_mapped (part_of p.ports) (formulas p) ∙ length-formulas p
+pub length-parts : (p : Package) → length (all_parts p.ports 0 (formulas p)) ≡ parts_in (formulas p)
+length-parts p = length-all_parts p.ports 0 (formulas p)
 
-pub length-equations_from : (ports : List Port) (part : ℕ) (xs : List Assign) → length (equations_from ports part xs) ≡ length xs
-length-equations_from ports part [] = refl
-length-equations_from ports part (a ∷ xs) = omega (arith, length-equations_from ports (part + 1) xs)
+pub length-equations_from : (ports : List Port) (first : ℕ) (xs : List Assign) → length (equations_from ports first xs) ≡ length xs
+length-equations_from ports first [] = refl
+length-equations_from ports first (a ∷ xs) = omega (arith, length-equations_from ports (first + part_count a.value) xs)
 
-equation_at : (ports : List Port) (part : ℕ) (xs : List Assign) (k : ℕ) (e : Equation) (d : Assign) → k < length xs
-    → get_or (equations_from ports part xs) k e ≡ equations.Flag (stream_of ports (get_or xs k d).name) (part + k)
-equation_at ports part [] k e d lt = absurd (omega arith)
-equation_at ports part (a ∷ xs) zero e d lt = ap (λ (n : ℕ). equations.Flag (stream_of ports a.name) n) (omega arith)
-equation_at ports part (a ∷ xs) (suc k) e d lt =
-    let more : (part + 1) + k ≡ part + suc k = omega arith in
-    equation_at ports (part + 1) xs k e d (omega arith) ∙ ap (λ (n : ℕ). equations.Flag (stream_of ports (get_or xs k d).name) n) more
+-- the part is the own one of a formula whose parts stand among these
+record IsAt (ports : List Port) (whole : List Part) (f : Formula) (part : ℕ) : Type 0 where
+  front : List Part
+  back : List Part
+  is : whole ≡ front ++ (parts_of ports (length front) f ++ back)
+  own : part ≡ own_part (length front) f
 
--- the formula of an assign's part
-pub assign_part : (p : Package) (k : ℕ) (d : Assign) (f : Formula) → k < length p.assigns → get_or (formulas p) (length p.claims + k) f ≡ (get_or p.assigns k d).value
-assign_part p k d f lt =
-    let front = map (λ (c : Claim). c.formula) p.claims in
-    let back = map (λ (a : Assign). a.value) p.assigns in
-    ap (λ (n : ℕ). get_or (front ++ back) (n + k) f) (sym (length_mapped (λ (c : Claim). c.formula) p.claims))
-    ∙ get_or-append-add front back k f ∙ get_or-map (λ (a : Assign). a.value) p.assigns k d f lt
+-- the k-th equation is for the k-th assign, and its part is its value's
+record IsEquationAt (ports : List Port) (whole : List Part) (a : Assign) (e : Equation) : Type 0 where
+  part : ℕ
+  is : e ≡ equations.Flag (stream_of ports a.name) part
+  at : IsAt ports whole a.value part
 
--- the formula of a claim's part
-pub claim_part : (p : Package) (k : ℕ) (d : Claim) (f : Formula) → k < length p.claims → get_or (formulas p) k f ≡ (get_or p.claims k d).formula
-claim_part p k d f lt =
-    let front = map (λ (c : Claim). c.formula) p.claims in
-    let back = map (λ (a : Assign). a.value) p.assigns in
-    let inside : k < length front = omega (arith, length_mapped (λ (c : Claim). c.formula) p.claims) in
-    get_or_append_left front back f k inside ∙ get_or-map (λ (c : Claim). c.formula) p.claims k d f lt
+equation_at : (ports : List Port) (whole front : List Part) (first : ℕ) (xs : List Assign) (k : ℕ) (e : Equation) (d : Assign) → first ≡ length front → whole ≡ front ++ all_parts ports first (map (λ a. a.value) xs) → k < length xs
+    → IsEquationAt ports whole (get_or xs k d) (get_or (equations_from ports first xs) k e)
+equation_at ports whole front first [] k e d long is lt = absurd (omega arith)
+equation_at ports whole front first (a ∷ xs) zero e d long is lt = record {
+  part = own_part first a.value;
+  is = refl;
+  at = record {
+    front = front;
+    back = all_parts ports (first + part_count a.value) (map (λ (x : Assign). x.value) xs);
+    is = is ∙ ap (λ (n : ℕ). front ++ (parts_of ports n a.value ++ all_parts ports (first + part_count a.value) (map (λ (x : Assign). x.value) xs))) long;
+    own = ap (λ (n : ℕ). own_part n a.value) long;
+  };
+}
+equation_at ports whole front first (a ∷ xs) (suc k) e d long is lt =
+    equation_at ports whole (front ++ parts_of ports first a.value) (first + part_count a.value) xs k e d
+    (omega (arith, long, length-append front (parts_of ports first a.value), length-parts_of ports first a.value))
+    (is ∙ sym (append_assoc front (parts_of ports first a.value) (all_parts ports (first + part_count a.value) (map (λ (x : Assign). x.value) xs))))
+    (omega arith)
 
-no_operands : (ports : List Port) (f : Formula) → operands (part_of ports f) ≡ []
-no_operands ports (Truth b) = refl
-no_operands ports (Named n) = refl
+all_parts-append : (ports : List Port) (first : ℕ) (fs gs : List Formula) → all_parts ports first (fs ++ gs) ≡ all_parts ports first fs ++ all_parts ports (first + parts_in fs) gs
+all_parts-append ports first [] gs = ap (λ (n : ℕ). all_parts ports n gs) (omega arith)
+all_parts-append ports first (f ∷ fs) gs =
+    ap (λ (ps : List Part). parts_of ports first f ++ ps) (all_parts-append ports (first + part_count f) fs gs ∙ ap (λ (n : ℕ). all_parts ports (first + part_count f) fs ++ all_parts ports n gs) (omega arith))
+    ∙ sym (append_assoc (parts_of ports first f) (all_parts ports (first + part_count f) fs) (all_parts ports (first + parts_in (f ∷ fs)) gs))
 
-pub numbers_below : (kind : ClaimKind) (number : ℕ) (cs : List Claim) (limit : ℕ) → number + length cs ≤ limit → AllByRecursion (λ n. n < limit) (numbers_from kind number cs)
-numbers_below kind number [] limit le = tt
-numbers_below kind number (c ∷ cs) limit le =
-    elim (cases_Bool (is_of kind c.kind)) [
-      | inl yes' ↦ rw yes' (omega arith, numbers_below kind (number + 1) cs limit (omega arith))
-      | inr no' ↦ rw no' (numbers_below kind (number + 1) cs limit (omega arith))
-    ]
+pub claims_before : (p : Package) → all_parts p.ports 0 (formulas p) ≡ all_parts p.ports 0 (map (λ c. c.formula) p.claims) ++ all_parts p.ports (claim_parts p.claims) (map (λ a. a.value) p.assigns)
+claims_before p =
+    all_parts-append p.ports 0 (map (λ (c : Claim). c.formula) p.claims) (map (λ (a : Assign). a.value) p.assigns)
+    ∙ ap (λ (n : ℕ). all_parts p.ports 0 (map (λ (c : Claim). c.formula) p.claims) ++ all_parts p.ports n (map (λ (a : Assign). a.value) p.assigns)) (omega (arith, parts_in-claims p.claims))
 
-pub length-numbers_from : (kind : ClaimKind) (number : ℕ) (cs : List Claim) → length (numbers_from kind number cs) ≤ length cs
-length-numbers_from kind number [] = omega arith
-length-numbers_from kind number (c ∷ cs) =
-    let rest = length-numbers_from kind (number + 1) cs in
+drop_done : (cs : List Claim) (k : ℕ) → length cs ≤ k → drop k cs ≡ []
+drop_done [] zero le = refl
+drop_done [] (suc k) le = refl
+drop_done (c ∷ cs) zero le = absurd (omega arith)
+drop_done (c ∷ cs) (suc k) le = drop_done cs k (omega arith)
+
+-- where the parts of all claims are made, the assigns' follow
+pub claims_done : (p : Package) (ps : List Part) (k : ℕ) → length p.claims ≤ k
+    → ps ++ all_parts p.ports (length ps) (map (λ c. c.formula) (drop k p.claims)) ≡ all_parts p.ports 0 (map (λ c. c.formula) p.claims)
+    → (ps ++ all_parts p.ports (length ps) (map (λ a. a.value) p.assigns) ≡ all_parts p.ports 0 (formulas p)) × (length ps + parts_in (map (λ a. a.value) p.assigns) ≡ parts_in (formulas p))
+claims_done p ps k le e =
+    let front = all_parts p.ports 0 (map (λ (c : Claim). c.formula) p.claims) in
+    let values = map (λ (a : Assign). a.value) p.assigns in
+    let made : ps ≡ front = sym (append-nil ps) ∙ subst (λ (cs : List Claim). ps ++ all_parts p.ports (length ps) (map (λ (c : Claim). c.formula) cs) ≡ front) (drop_done p.claims k le) e in
+    let long : length ps ≡ claim_parts p.claims = ap length made ∙ length-all_parts p.ports 0 (map (λ (c : Claim). c.formula) p.claims) ∙ parts_in-claims p.claims in (
+      (λ j. made j ++ all_parts p.ports (long j) values) ∙ sym (claims_before p),
+      omega (arith, long, parts_in-formulas p),
+    )
+
+assign_equation : (p : Package) (k : ℕ) (e : Equation) (d : Assign) → k < length p.assigns → IsEquationAt p.ports (all_parts p.ports 0 (formulas p)) (get_or p.assigns k d) (get_or (equations_from p.ports (claim_parts p.claims) p.assigns) k e)
+assign_equation p k e d lt =
+    equation_at p.ports (all_parts p.ports 0 (formulas p)) (all_parts p.ports 0 (map (λ (c : Claim). c.formula) p.claims)) (claim_parts p.claims) p.assigns k e d
+    (omega (arith, length-all_parts p.ports 0 (map (λ (c : Claim). c.formula) p.claims), parts_in-claims p.claims)) (claims_before p) lt
+
+pub numbers_below : (kind : ClaimKind) (first : ℕ) (cs : List Claim) (limit : ℕ) → first + claim_parts cs ≤ limit → AllByRecursion (λ n. n < limit) (numbers_from kind first cs)
+numbers_below kind first [] limit le = tt
+numbers_below kind first (c ∷ cs) limit le =
+    let rest = numbers_below kind (first + part_count c.formula) cs limit (omega arith) in
+    elim (cases_Bool (is_of kind c.kind)) [ inl yes' ↦ rw yes' (omega (arith, some_parts c.formula), rest) | inr no' ↦ rw no' rest ]
+
+pub length-numbers_from : (kind : ClaimKind) (first : ℕ) (cs : List Claim) → length (numbers_from kind first cs) ≤ length cs
+length-numbers_from kind first [] = omega arith
+length-numbers_from kind first (c ∷ cs) =
+    let rest = length-numbers_from kind (first + part_count c.formula) cs in
     elim (cases_Bool (is_of kind c.kind)) [ inl yes' ↦ rw yes' (omega arith) | inr no' ↦ rw no' (omega arith) ]
 
-part_fits : (p : Package) (claim : Option ℕ) (sought : ℕ) (f : Formula) → all_names (names_port p.ports) f ≡ true → IsPartOf (draft_of p claim sought) (part_of p.ports f)
-part_fits p claim sought (Truth b) h = tt
-part_fits p claim sought (Named n) h = stream_below p.ports n h
+-- a part of the problem: of its streams, plain, and behind its operands
+record IsSound (p : Package) (claim : Option ℕ) (sought n : ℕ) (q : Part) : Type 0 where
+  fits : IsPartOf (draft_of p claim sought) q
+  plain : IsPlainPart q
+  before : All (λ a. a < n) (operands q)
 
-equations_fit : (p : Package) (claim : Option ℕ) (sought part : ℕ) (xs : List Assign) → AllByRecursion (λ a. names_port p.ports a.name ≡ true) xs
-    → part + length xs ≤ length (map (part_of p.ports) (formulas p)) → AllByRecursion (IsEquationOf (draft_of p claim sought)) (equations_from p.ports part xs)
-equations_fit p claim sought part [] h le = tt
-equations_fit p claim sought part (a ∷ xs) h le =
-    ((stream_below p.ports a.name h.0, omega arith), equations_fit p claim sought (part + 1) xs h.1 (omega arith))
+part_sound : (p : Package) (claim : Option ℕ) (sought : ℕ) (f : Formula) → all_names (names_port p.ports) f ≡ true → (first n : ℕ) (q : Part) → IsOf p.ports f first n q → IsSound p claim sought n q
+part_sound p claim sought f names first n (parts.Truth b) h = record { fits = tt; plain = tt; before = All-nil (λ a. a < n) }
+part_sound p claim sought f names first n (parts.Flag stream before) h = record {
+  fits = omega (arith, h.3, stream_below p.ports h.0 (h.1 (names_port p.ports) names));
+  plain = h.2;
+  before = All-nil (λ a. a < n);
+}
+part_sound p claim sought f names first n (parts.Not a) h = record { fits = tt; plain = tt; before = All-from_recursion (λ a. a < n) (a ∷ []) (h.below, tt) }
+part_sound p claim sought f names first n (parts.And a b) h = record { fits = tt; plain = tt; before = All-from_recursion (λ a. a < n) (a ∷ b ∷ []) (h.0.below, (h.1.below, tt)) }
+part_sound p claim sought f names first n (parts.Or a b) h = record { fits = tt; plain = tt; before = All-from_recursion (λ a. a < n) (a ∷ b ∷ []) (h.0.below, (h.1.below, tt)) }
+part_sound p claim sought f names first n (parts.Compare row) h = absurd h
+part_sound p claim sought f names first n (parts.Same a b) h = absurd h
+part_sound p claim sought f names first n (parts.Choice a b c) h = absurd h
+part_sound p claim sought f names first n (parts.Arrow a b) h = absurd h
+
+parts_sound : (p : Package) (claim : Option ℕ) (sought first : ℕ) (fs : List Formula) → AllByRecursion (λ f. all_names (names_port p.ports) f ≡ true) fs → AllFrom (IsSound p claim sought) first (all_parts p.ports first fs)
+parts_sound p claim sought first [] h = tt
+parts_sound p claim sought first (f ∷ fs) h =
+    from_append (IsSound p claim sought) first (parts_of p.ports first f) (all_parts p.ports (first + part_count f) fs)
+    (from_weaker (IsOf p.ports f first) (IsSound p claim sought) (part_sound p claim sought f h.0 first) first (parts_of p.ports first f) (parts_are p.ports first f))
+    (subst (λ (n : ℕ). AllFrom (IsSound p claim sought) n (all_parts p.ports (first + part_count f) fs)) (omega (arith, length-parts_of p.ports first f)) (parts_sound p claim sought (first + part_count f) fs h.1))
+
+all_sound : (p : Package) (claim : Option ℕ) (sought : ℕ) → IsWellFormed p → AllFrom (IsSound p claim sought) 0 (all_parts p.ports 0 (formulas p))
+all_sound p claim sought kept = parts_sound p claim sought 0 (formulas p) (recursion_from_All (λ f. all_names (names_port p.ports) f ≡ true) (formulas p) (formula_names p kept))
+
+from_all : (P : ℕ → Part → Type 0) (Q : Part → Type 0) → ((n : ℕ) (q : Part) → P n q → Q q) → (n : ℕ) (qs : List Part) → AllFrom P n qs → AllByRecursion Q qs
+from_all P Q w n [] h = tt
+from_all P Q w n (q ∷ qs) h = (w n q h.0, from_all P Q w (n + 1) qs h.1)
+
+equations_fit : (p : Package) (claim : Option ℕ) (sought first : ℕ) (xs : List Assign) → AllByRecursion (λ a. names_port p.ports a.name ≡ true) xs
+    → first + parts_in (map (λ a. a.value) xs) ≤ length (all_parts p.ports 0 (formulas p)) → AllByRecursion (IsEquationOf (draft_of p claim sought)) (equations_from p.ports first xs)
+equations_fit p claim sought first [] h le = tt
+equations_fit p claim sought first (a ∷ xs) h le =
+    ((stream_below p.ports a.name h.0, omega (arith, some_parts a.value, le)), equations_fit p claim sought (first + part_count a.value) xs h.1 (omega (arith, le)))
 
 -- what stands among the earlier assigns is assigned by them
 record Covers (earlier : List Assign) (a : Assign) : Type 0 where
@@ -163,59 +241,49 @@ any_last t (x ∷ xs) y h = or_right (t x) (list_any t (xs ++ y ∷ [])) (any_la
 
 target_apart : (ports : List Port) (a : Assign) (earlier : List Assign) (part : ℕ) (later : List Assign) → names_port ports a.name ≡ true → Covers earlier a → all_follow ports earlier later ≡ true
     → AllByRecursion (λ y. nat_eq (0 + stream_of ports a.name) y ≡ false) (map (target 0) (equations_from ports part later))
-target_apart ports a earlier part [] port cov h = tt
-target_apart ports a earlier part (b ∷ later) port cov h =
+target_apart ports a earlier first [] port cov h = tt
+target_apart ports a earlier first (b ∷ later) port cov h =
     let fit = fits_at ports earlier (b ∷ later) h 0 b (omega arith) in
     let now = and_parts (may_follow ports earlier b) (all_follow ports (earlier ++ b ∷ []) later) h in
     let fresh : is_assigned earlier b.name ≡ false = subst (λ (e : List Assign). is_assigned e b.name ≡ false) (append-nil earlier) fit.fresh in (
       ne_eqb (0 + stream_of ports a.name) (0 + stream_of ports b.name) (λ e.
           let equal : stream_of ports b.name ≡ stream_of ports a.name = omega arith in
           both_ways (is_assigned earlier b.name) fresh (cov.covers b.name (same_from_stream ports b.name a.name (port_from_output ports b.name fit.output) port equal))),
-      target_apart ports a (earlier ++ b ∷ []) (part + 1) later port (record { covers = λ n e. any_left (λ x. same n x.name) earlier (b ∷ []) (cov.covers n e) }) now.1,
+      target_apart ports a (earlier ++ b ∷ []) (first + part_count b.value) later port (record { covers = λ n e. any_left (λ x. same n x.name) earlier (b ∷ []) (cov.covers n e) }) now.1,
     )
 
 targets_distinct : (ports : List Port) (earlier : List Assign) (part : ℕ) (later : List Assign) → all_follow ports earlier later ≡ true → IsDistinct nat_eq (map (target 0) (equations_from ports part later))
 unfolding IsDistinct
-targets_distinct ports earlier part [] h = tt
-targets_distinct ports earlier part (a ∷ later) h =
+targets_distinct ports earlier first [] h = tt
+targets_distinct ports earlier first (a ∷ later) h =
     let fit = fits_at ports earlier (a ∷ later) h 0 a (omega arith) in
     let now = and_parts (may_follow ports earlier a) (all_follow ports (earlier ++ a ∷ []) later) h in (
-      target_apart ports a (earlier ++ a ∷ []) (part + 1) later (port_from_output ports a.name fit.output) (record { covers = λ n e. any_last (λ x. same n x.name) earlier a e }) now.1,
-      targets_distinct ports (earlier ++ a ∷ []) (part + 1) later now.1,
+      target_apart ports a (earlier ++ a ∷ []) (first + part_count a.value) later (port_from_output ports a.name fit.output) (record { covers = λ n e. any_last (λ x. same n x.name) earlier a e }) now.1,
+      targets_distinct ports (earlier ++ a ∷ []) (first + part_count a.value) later now.1,
     )
 
-part_shape : (ports : List Port) (fs : List Formula) (n : ℕ) (q : Part) → slice_get (map (part_of ports) fs) n ≡ Some q → (f : Formula) × (slice_get fs n ≡ Some f) × (q ≡ part_of ports f)
-part_shape ports [] n q e = absurd cc
-part_shape ports (f ∷ fs) zero q e = (f, refl, cc)
-part_shape ports (f ∷ fs) (suc n) q e = part_shape ports fs n q e
-
-no_operand : (ports : List Port) (fs : List Formula) → flat_map operands (map (part_of ports) fs) ≡ []
-no_operand ports [] = refl
-no_operand ports (f ∷ fs) = rw (no_operands ports f, no_operand ports fs) refl
-
-nothing_twice : (ports : List Port) (fs : List Formula) → IsDistinct nat_eq (flat_map operands (map (part_of ports) fs))
-unfolding IsDistinct
-nothing_twice ports fs = rw (no_operand ports fs) tt
-
-pub formed : (p : Package) (claim : Option ℕ) (sought : ℕ) → IsWellFormed p → IfSome claim (λ part. part < length p.claims) → MatchOption claim ((1 ≤ sought) × (sought ≤ 30)) (λ _. sought ≡ 0)
+pub formed : (p : Package) (claim : Option ℕ) (sought : ℕ) → IsWellFormed p → IfSome claim (λ part. part < claim_parts p.claims) → MatchOption claim ((1 ≤ sought) × (sought ≤ 30)) (λ _. sought ≡ 0)
     → IsFormed (draft_of p claim sought)
 formed p claim sought kept inside long =
-    let few = few_clauses p kept in
+    let few = few_parts p kept in
     let ports = kept.few_ports in
-    let parts = length-parts p in
+    let whole = all_parts p.ports 0 (formulas p) in
+    let long_parts = length-parts p in
+    let split = parts_in-formulas p in
+    let sound = all_sound p claim sought kept in
     record {
       ints = omega arith;
       flags = omega arith;
       parts = omega arith;
-      each_part = All-map (IsPartOf (draft_of p claim sought)) (part_of p.ports) (formulas p) (All-weaker (λ f. all_names (names_port p.ports) f ≡ true) (λ f. IsPartOf (draft_of p claim sought) (part_of p.ports f)) (part_fits p claim sought) (formulas p) (formula_names p kept));
-      before = λ n q e. let s = part_shape p.ports (formulas p) n q e in rw (s.2, no_operands p.ports s.0) (All-nil (λ a. a < n));
-      once = nothing_twice p.ports (formulas p);
-      each_equation = All-from_recursion (IsEquationOf (draft_of p claim sought)) (equations_from p.ports (length p.claims) p.assigns)
-          (equations_fit p claim sought (length p.claims) p.assigns (recursion_from_All (λ a. names_port p.ports a.name ≡ true) p.assigns (assign_names p kept)) (omega arith));
-      one_each = targets_distinct p.ports [] (length p.claims) p.assigns kept.assigns_in_order;
-      so_far = All-from_recursion (λ n. n < length (map (part_of p.ports) (formulas p))) (numbers_from Assume 0 p.claims) (numbers_below Assume 0 p.claims (length (map (part_of p.ports) (formulas p))) (omega arith));
-      earlier = All-nil (λ n. n < length (map (part_of p.ports) (formulas p)));
-      claim = claim_inside claim (length p.claims) (length (map (part_of p.ports) (formulas p))) (omega arith) inside;
+      each_part = All-from_recursion (IsPartOf (draft_of p claim sought)) whole (from_all (IsSound p claim sought) (IsPartOf (draft_of p claim sought)) (λ n q h. h.fits) 0 whole sound);
+      before = λ n q e. subst (λ (m : ℕ). All (λ a. a < m) (operands q)) (omega arith) (from_at (IsSound p claim sought) 0 whole n q sound e).before;
+      once = none_twice p.ports (formulas p);
+      each_equation = All-from_recursion (IsEquationOf (draft_of p claim sought)) (equations_from p.ports (claim_parts p.claims) p.assigns)
+          (equations_fit p claim sought (claim_parts p.claims) p.assigns (recursion_from_All (λ a. names_port p.ports a.name ≡ true) p.assigns (assign_names p kept)) (omega arith));
+      one_each = targets_distinct p.ports [] (claim_parts p.claims) p.assigns kept.assigns_in_order;
+      so_far = All-from_recursion (λ n. n < length whole) (numbers_from Assume 0 p.claims) (numbers_below Assume 0 p.claims (length whole) (omega arith));
+      earlier = All-nil (λ n. n < length whole);
+      claim = claim_inside claim (claim_parts p.claims) (length whole) (omega arith) inside;
       length = long;
     }
   where
@@ -223,42 +291,88 @@ formed p claim sought kept inside long =
     claim_inside None small large le h = tt
     claim_inside (Some part) small large le h = omega arith
 
-plain_part : (ports : List Port) (f : Formula) → IsPlainPart (part_of ports f)
-plain_part ports (Truth b) = tt
-plain_part ports (Named n) = refl
-
-plain_equations : (ports : List Port) (part : ℕ) (xs : List Assign) → AllByRecursion IsFlagEquation (equations_from ports part xs)
-plain_equations ports part [] = tt
-plain_equations ports part (a ∷ xs) = (tt, plain_equations ports (part + 1) xs)
+plain_equations : (ports : List Port) (first : ℕ) (xs : List Assign) → AllByRecursion IsFlagEquation (equations_from ports first xs)
+plain_equations ports first [] = tt
+plain_equations ports first (a ∷ xs) = (tt, plain_equations ports (first + part_count a.value) xs)
 
 pub plain : (p : Package) (claim : Option ℕ) (sought : ℕ) → IsWellFormed p → IsPlain (draft_of p claim sought)
-plain p claim sought kept = record {
-  ints = refl;
-  parts = All-map IsPlainPart (part_of p.ports) (formulas p) (λ k d lt. plain_part p.ports (get_or (formulas p) k d));
-  equations = All-from_recursion IsFlagEquation (equations_from p.ports (length p.claims) p.assigns) (plain_equations p.ports (length p.claims) p.assigns);
-  free = omega (arith, kept.few_ports);
-}
+plain p claim sought kept =
+    let whole = all_parts p.ports 0 (formulas p) in
+    record {
+      ints = refl;
+      parts = All-from_recursion IsPlainPart whole (from_all (IsSound p claim sought) IsPlainPart (λ n q h. h.plain) 0 whole (all_sound p claim sought kept));
+      equations = All-from_recursion IsFlagEquation (equations_from p.ports (claim_parts p.claims) p.assigns) (plain_equations p.ports (claim_parts p.claims) p.assigns);
+      free = omega (arith, kept.few_ports);
+    }
 
 -- ---- no cycle
 
--- the part of a formula names this stream alone
-part_names : (p : Package) (claim : Option ℕ) (sought r n : ℕ) → PartNames (draft_of p claim sought) r n → (f : Formula) → slice_get (formulas p) n ≡ Some f
-    → (name : List ℕ) × (f ≡ Named name) × (r ≡ stream_of p.ports name)
-part_names p claim sought r _ (itself n q e names) f is =
-    let s = part_shape p.ports (formulas p) n q e in
-    let same_formula : s.0 ≡ f = some_formula s.0 f (sym s.1 ∙ is) in
-    names_of p.ports f r (subst (λ (x : Part). Names 0 x r) (s.2 ∙ ap (part_of p.ports) same_formula) names)
-  where
-    some_formula : (a b : Formula) → Some a ≡ Some b → a ≡ b
-    some_formula a b e = cc
+slice_front : (mid back : List Part) (n : ℕ) (q : Part) → n < length mid → slice_get (mid ++ back) n ≡ Some q → slice_get mid n ≡ Some q
+slice_front [] back n q lt e = absurd (omega arith)
+slice_front (x ∷ mid) back zero q lt e = cc
+slice_front (x ∷ mid) back (suc n) q lt e = slice_front mid back n q (omega arith) e
 
-    names_of : (ports : List Port) (f : Formula) (r : ℕ) → Names 0 (part_of ports f) r → (name : List ℕ) × (f ≡ Named name) × (r ≡ stream_of ports name)
-    names_of ports (Truth b) r h = absurd h
-    names_of ports (Named name) r h = (name, refl, omega (arith, h.1))
-part_names p claim sought r _ (operand n m q e among below) f is =
-    let s = part_shape p.ports (formulas p) n q e in
-    let none : Contains [] m = subst (λ (x : List ℕ). Contains x m) (ap operands s.2 ∙ no_operands p.ports s.0) among in
-    absurd (omega (arith, none.1))
+slice_inside : (front mid back : List Part) (n : ℕ) (q : Part) → length front ≤ n → n < length front + length mid → slice_get (front ++ (mid ++ back)) n ≡ Some q → slice_get mid (n - length front) ≡ Some q
+slice_inside [] mid back n q le lt e = slice_front mid back (n - 0) q (omega arith) (subst (λ (m : ℕ). slice_get (mid ++ back) m ≡ Some q) (omega arith) e)
+slice_inside (x ∷ front) mid back zero q le lt e = absurd (omega arith)
+slice_inside (x ∷ front) mid back (suc n) q le lt e =
+    subst (λ (m : ℕ). slice_get mid m ≡ Some q) (omega arith) (slice_inside front mid back n q (omega arith) (omega arith) e)
+
+-- a formula's parts name the streams of its names alone
+names_of : (ports : List Port) (f : Formula) (first n r : ℕ) (q : Part) → IsOf ports f first n q → Names 0 q r → (name : List ℕ) × IsNamedIn f name × (r ≡ stream_of ports name)
+names_of ports f first n r (parts.Flag stream before) h k = (h.0, h.1, omega (arith, k.1, h.3))
+names_of ports f first n r (parts.Compare row) h k = absurd h
+names_of ports f first n r (parts.Truth b) h k = absurd k
+names_of ports f first n r (parts.Not a) h k = absurd k
+names_of ports f first n r (parts.And a b) h k = absurd k
+names_of ports f first n r (parts.Or a b) h k = absurd k
+names_of ports f first n r (parts.Same a b) h k = absurd k
+names_of ports f first n r (parts.Choice a b c) h k = absurd k
+names_of ports f first n r (parts.Arrow a b) h k = absurd k
+
+among_one : (a m : ℕ) → Contains (a ∷ []) m → a ≡ m
+among_one a m h = only a m h.0 h.1 h.2
+  where
+    only : (a m k : ℕ) → k < 1 → get_or (a ∷ []) k m ≡ m → a ≡ m
+    only a m zero lt e = e
+    only a m (suc k) lt e = absurd (omega arith)
+
+among_two : (a b m : ℕ) → Contains (a ∷ b ∷ []) m → (a ≡ m) ⊎ (b ≡ m)
+among_two a b m h = either a b m h.0 h.1 h.2
+  where
+    either : (a b m k : ℕ) → k < 2 → get_or (a ∷ b ∷ []) k m ≡ m → (a ≡ m) ⊎ (b ≡ m)
+    either a b m zero lt e = inl e
+    either a b m (suc zero) lt e = inr e
+    either a b m (suc (suc k)) lt e = absurd (omega arith)
+
+one_operand : (first n a m : ℕ) → IsOperand first n a → a ≡ m → IsOperand first n m
+one_operand first n a m h e = record { from = omega (arith, h.from, e); below = omega (arith, h.below, e) }
+
+operand_of : (ports : List Port) (f : Formula) (first n m : ℕ) (q : Part) → IsOf ports f first n q → Contains (operands q) m → IsOperand first n m
+operand_of ports f first n m (parts.Truth b) h k = absurd (omega (arith, k.1))
+operand_of ports f first n m (parts.Flag stream before) h k = absurd (omega (arith, k.1))
+operand_of ports f first n m (parts.Not a) h k = one_operand first n a m h (among_one a m k)
+operand_of ports f first n m (parts.And a b) h k = elim (among_two a b m k) [ inl e ↦ one_operand first n a m h.0 e | inr e ↦ one_operand first n b m h.1 e ]
+operand_of ports f first n m (parts.Or a b) h k = elim (among_two a b m k) [ inl e ↦ one_operand first n a m h.0 e | inr e ↦ one_operand first n b m h.1 e ]
+operand_of ports f first n m (parts.Compare row) h k = absurd h
+operand_of ports f first n m (parts.Same a b) h k = absurd h
+operand_of ports f first n m (parts.Choice a b c) h k = absurd h
+operand_of ports f first n m (parts.Arrow a b) h k = absurd h
+
+-- among a formula's parts
+part_is : (p : Package) (claim : Option ℕ) (sought n : ℕ) (q : Part) (front back : List Part) (f : Formula) → all_parts p.ports 0 (formulas p) ≡ front ++ (parts_of p.ports (length front) f ++ back)
+    → length front ≤ n → n < length front + part_count f → slice_get (all_parts p.ports 0 (formulas p)) n ≡ Some q → IsOf p.ports f (length front) n q
+part_is p claim sought n q front back f is le lt e =
+    let mid = parts_of p.ports (length front) f in
+    let there = slice_inside front mid back n q le (omega (arith, lt, length-parts_of p.ports (length front) f)) (subst (λ (ps : List Part). slice_get ps n ≡ Some q) is e) in
+    subst (λ (m : ℕ). IsOf p.ports f (length front) m q) (omega (arith, le)) (from_at (IsOf p.ports f (length front)) (length front) mid (n - length front) q (parts_are p.ports (length front) f) there)
+
+part_names : (p : Package) (claim : Option ℕ) (sought r n : ℕ) → PartNames (draft_of p claim sought) r n → (front back : List Part) (f : Formula) → all_parts p.ports 0 (formulas p) ≡ front ++ (parts_of p.ports (length front) f ++ back)
+    → length front ≤ n → n < length front + part_count f → (name : List ℕ) × IsNamedIn f name × (r ≡ stream_of p.ports name)
+part_names p claim sought r _ (itself n q e names) front back f is le lt = names_of p.ports f (length front) n r q (part_is p claim sought n q front back f is le lt e) names
+part_names p claim sought r _ (operand n m q e among below) front back f is le lt =
+    let o = operand_of p.ports f (length front) n m q (part_is p claim sought n q front back f is le lt e) among in
+    part_names p claim sought r m below front back f is o.from (omega (arith, o.below, lt))
 
 same_stream : (ports : List Port) (n m : List ℕ) → same n m ≡ true → stream_of ports n ≡ stream_of ports m
 same_stream [] n m h = refl
@@ -288,18 +402,16 @@ depends p claim sought s r kept h =
     let e = h.0 in
     let k = h.1.0 in
     let xs = p.assigns in
-    let long : k < length xs = omega (arith, h.1.1, length-equations_from p.ports (length p.claims) xs) in
-    let at = λ (d : Assign). equation_at p.ports (length p.claims) xs k e d long in
-    let is = λ (d : Assign). sym h.1.2 ∙ at d in
-    let target_is = λ (d : Assign). (let t : target 0 e ≡ 0 + stream_of p.ports (get_or xs k d).name = ap (target 0) (is d) in t) in
-    let value = λ (d : Assign). (get_or xs k d).value in
+    let long : k < length xs = omega (arith, h.1.1, length-equations_from p.ports (claim_parts p.claims) xs) in
+    let at = λ (d : Assign). assign_equation p k e d long in
+    let target_is = λ (d : Assign). (let t : target 0 e ≡ 0 + stream_of p.ports (get_or xs k d).name = ap (target 0) (sym h.1.2 ∙ (at d).is) in t) in
     let some = get_or xs k any_assign in
-    let part = equation_names p claim sought r e (stream_of p.ports some.name) (length p.claims + k) (is any_assign) h.3 in
-    let inside : length p.claims + k < length (formulas p) = omega (arith, length-formulas p) in
-    let there : slice_get (formulas p) (length p.claims + k) ≡ Some some.value = slice_get-get_or (formulas p) (length p.claims + k) some.value inside ∙ ap (λ (x : Formula). Some x) (assign_part p k any_assign some.value long) in
-    let n = part_names p claim sought r (length p.claims + k) part some.value there in
+    let own = at any_assign in
+    let place = own.at in
+    let part = equation_names p claim sought r e (stream_of p.ports some.name) own.part (sym h.1.2 ∙ own.is) h.3 in
+    let n = part_names p claim sought r own.part part place.front place.back some.value place.is (omega (arith, place.own, some_parts some.value)) (omega (arith, place.own, some_parts some.value)) in
     let fit = fits_of p kept k any_assign long in
-    let uses : (names_input p.ports n.0 || is_assigned (take k xs) n.0) ≡ true = subst (λ (x : Formula). all_names (λ y. names_input p.ports y || is_assigned (take k xs) y) x ≡ true) n.1 fit.value in
+    let uses : (names_input p.ports n.0 || is_assigned (take k xs) n.0) ≡ true = n.1 (λ y. names_input p.ports y || is_assigned (take k xs) y) fit.value in
     record {
       from = k;
       long = long;

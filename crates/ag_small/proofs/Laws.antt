@@ -1,23 +1,22 @@
 -- What is read is exactly what the grammar and the rules have.
-use Rattle.std.proofs.Common.{◌≡◌, ℕ, suc, ◌+◌, ◌*◌, ◌≤◌, true, ◌&&◌, cond, leb, List, [], ◌∷◌, ◌++◌, length, Some, None, Result, Ok, Err, refl, sym, subst, ◌∙◌, arith}
+use Rattle.std.proofs.Common.{◌≡◌, ℕ, ◌+◌, ◌≤◌, true, ◌&&◌, cond, leb, List, [], ◌∷◌, ◌++◌, length, Some, None, Result, Ok, Err, refl, sym, subst, ◌∙◌, arith}
 use Rattle.std.specs.Prelude.{codes, is_some, IfOk}
 use Rattle.std.specs.List.{list_all, flat_map}
 use Rattle.std.proofs.lemmas.Bool.{and_parts, leb-true, le-leb}
 use Rattle.ag_small.specs.declared.package.Package.{Package}
-use Rattle.ag_small.specs.declared.package.Claim.{Claim}
-use Rattle.ag_small.specs.declared.package.Assign.{Assign}
-use Rattle.ag_small.specs.declared.package.Formula.{Formula}
-use Rattle.ag_small.specs.declared.package.Formula.TheVariants.{Truth, Named}
+use Rattle.ag_small.specs.declared.package.Port.{Port}
 use Rattle.ag_small.specs.declared.package.ReadFault.{ReadFault}
 use Rattle.ag_small.specs.declared.package.ReadFault.TheVariants as fault
 use Rattle.ag_small.specs.Characters.{is_space}
-use Rattle.ag_small.specs.Grammar.{Terminal, Fixed, Name, Stands, Spells, fixed, head_text, annex_words_at_head, middle_text, end_texts, port_text, claim_text, assign_text, formula_text, package_text}
+use Rattle.ag_small.specs.Grammar.{Terminal, Fixed, Name, Stands, Spells, fixed, head_text, annex_words_at_head, middle_text, end_texts, port_text, claim_text, assign_text, package_text}
 use Rattle.ag_small.specs.Rules.{ports_differ, names_port, all_names, all_follow, IsWellFormed}
 use Rattle.ag_small.specs.Reads.{Reads, IsReadUnlessMemory}
 use Rattle.ag_small.specs.Reading.{◌>>=◌, Gives, fixed_at, all_fixed_at, name_at, port_at, claim_at, assign_at, items_at, head_at, middle_at, is_well_formed, package_at, read_of}
 use Rattle.ag_small.proofs.Tools.{bind_some, guard_some, some_is}
 use Rattle.ag_small.proofs.Terminals.{visible, letter_visible, name_parts, fixed_stands, fixed_found, name_stands, name_found}
-use Rattle.ag_small.proofs.Parts.{spells_joined, spells_split, all_fixed_spell, all_fixed_found, port_exact, claim_exact, assign_exact, items_spell, items_found, port_apart, claim_apart, assign_apart}
+use Rattle.ag_small.proofs.Tokens.{port_tokens, claims_tokens, assigns_tokens}
+use Rattle.ag_small.proofs.Spelled.{spells_joined, spells_split, all_fixed_spell, all_fixed_found}
+use Rattle.ag_small.proofs.Parts.{port_form, claim_form, assign_form, port_item, claim_item, assign_item, items_spell, items_found, port_apart, claim_apart, assign_apart}
 
 abbrev opening : List (List ℕ)
 opening = codes "public" ∷ codes "with" ∷ codes "Base_Types" ∷ codes ";" ∷ codes "system" ∷ []
@@ -105,17 +104,13 @@ after_ports p = fixed annex_words_at_head ++ after_annex p
 abbrev after_head : Package → List Terminal
 after_head p = flat_map port_text p.ports ++ after_ports p
 
--- at most this many items, as the reading takes
-record HasFew (p : Package) : Type 0 where
-  ports : length p.ports ≤ 12
-  claims : length p.claims ≤ 200
-  assigns : length p.assigns ≤ 200
-
 record IsSpelled (b : List ℕ) (p : Package) : Type 0 where
   end : List ℕ
   spelled : Spells (package_text p) b end
   white : list_all is_space end ≡ true
-  few : HasFew p
+  few_ports : length p.ports ≤ 12
+  claims : list_all claim_form p.claims ≡ true
+  assigns : list_all assign_form p.assigns ≡ true
 
 package_spells : (b : List ℕ) (p : Package) → package_at b ≡ Some p → IsSpelled b p
 unfolding package_at
@@ -129,25 +124,31 @@ package_spells b p e =
     let z = bind_some (all_fixed_at (end_texts h.0.0 h.0.1 m.0.0) t.0.1) _ p t.2 in
     let made : Package = record { name = h.0.0; frame = h.0.1; body = m.0.0; ports = q.0.0; claims = c.0.0; assigns = t.0.0 } in
     let k = guard_some (list_all is_space z.0) made p z.2 in
-    let few_ports = items_spell port_at port_text port_exact (codes "annex") 12 h.0.2 q.0 q.1 in
-    let few_claims = items_spell claim_at claim_text claim_exact (codes "**}") 200 a.0 c.0 c.1 in
-    let few_assigns = items_spell assign_at assign_text assign_exact (codes "**}") 200 m.0.1 t.0 t.1 in
-    let s5 = spells_joined (flat_map assign_text t.0.0) (after_assigns made) m.0.1 t.0.1 z.0 few_assigns.0 (all_fixed_spell (end_texts h.0.0 h.0.1 m.0.0) t.0.1 z.0 z.1) in
+    let few_ports = items_spell port_at port_text port_form port_item (codes "annex") 12 h.0.2 q.0 q.1 in
+    let few_claims = items_spell claim_at claim_text claim_form claim_item (codes "**}") 200 a.0 c.0 c.1 in
+    let few_assigns = items_spell assign_at assign_text assign_form assign_item (codes "**}") 200 m.0.1 t.0 t.1 in
+    let s5 = spells_joined (flat_map assign_text t.0.0) (after_assigns made) m.0.1 t.0.1 z.0 few_assigns.spelled (all_fixed_spell (end_texts h.0.0 h.0.1 m.0.0) t.0.1 z.0 z.1) in
     let s4 = spells_joined (middle_text h.0.1 m.0.0) (after_middle made) c.0.1 m.0.1 z.0 (middle_spells h.0.1 c.0.1 m.0 m.1) s5 in
-    let s3 = spells_joined (flat_map claim_text c.0.0) (after_claims made) a.0 c.0.1 z.0 few_claims.0 s4 in
+    let s3 = spells_joined (flat_map claim_text c.0.0) (after_claims made) a.0 c.0.1 z.0 few_claims.spelled s4 in
     let s2 = spells_joined (fixed annex_words_at_head) (after_annex made) q.0.1 a.0 z.0 (all_fixed_spell annex_words_at_head q.0.1 a.0 a.1) s3 in
-    let s1 = spells_joined (flat_map port_text q.0.0) (after_ports made) h.0.2 q.0.1 z.0 few_ports.0 s2 in
+    let s1 = spells_joined (flat_map port_text q.0.0) (after_ports made) h.0.2 q.0.1 z.0 few_ports.spelled s2 in
     let s0 = spells_joined (head_text h.0.0 h.0.1) (after_head made) b h.0.2 z.0 (head_spells b h.0 h.1) s1 in
     subst (λ (r : Package). IsSpelled b r) k.1 (record {
       end = z.0;
       spelled = s0;
       white = k.0;
-      few = record { ports = few_ports.1; claims = few_claims.1; assigns = few_assigns.1 };
+      few_ports = few_ports.few;
+      claims = few_claims.in_form;
+      assigns = few_assigns.in_form;
     })
 
-package_found : (b : List ℕ) (p : Package) → IsSpelled b p → package_at b ≡ Some p
+all_ports : (ps : List Port) → list_all port_form ps ≡ true
+all_ports [] = refl
+all_ports (p ∷ ps) = all_ports ps
+
+package_found : (b : List ℕ) (p : Package) → IsSpelled b p → length (flat_map claim_text p.claims) + length (flat_map assign_text p.assigns) ≤ 1000 → package_at b ≡ Some p
 unfolding package_at
-package_found b p s =
+package_found b p s few =
     let h = spells_split (head_text p.name p.frame) (after_head p) b s.end s.spelled in
     let q = spells_split (flat_map port_text p.ports) (after_ports p) h.0 s.end h.2 in
     let a = spells_split (fixed annex_words_at_head) (after_annex p) q.0 s.end q.2 in
@@ -160,59 +161,47 @@ package_found b p s =
     let annex_here : is_some (fixed_at (codes "annex") q.0) ≡ true = rw (fixed_found (codes "annex") q.0 a.1.0 refl a.1.1) refl in
     let claims_end : is_some (fixed_at (codes "**}") c.0) ≡ true = rw (fixed_found (codes "**}") c.0 m.1.0 refl m.1.1) refl in
     let assigns_end : is_some (fixed_at (codes "**}") t.0) ≡ true = rw (fixed_found (codes "**}") t.0 t.2.0 refl t.2.1) refl in
+    let ports = items_found port_at port_text port_form port_item (codes "annex") port_apart p.ports 12 h.0 q.0 s.few_ports (all_ports p.ports) (omega (arith, port_tokens p.ports, s.few_ports)) q.1 annex_here in
+    let claims = items_found claim_at claim_text claim_form claim_item (codes "**}") claim_apart p.claims 200 a.0 c.0 (omega (arith, few, claims_tokens p.claims)) s.claims (omega (arith, few)) c.1 claims_end in
+    let assigns = items_found assign_at assign_text assign_form assign_item (codes "**}") assign_apart p.assigns 200 m.0 t.0 (omega (arith, few, assigns_tokens p.assigns)) s.assigns (omega (arith, few)) t.1 assigns_end in
     rw (
       head_found p.name p.frame b h.0 h.1,
-      items_found port_at port_text port_exact (codes "annex") port_apart p.ports 12 h.0 q.0 s.few.ports q.1 annex_here,
+      ports,
       all_fixed_found annex_words_at_head q.0 a.0 refl a.1,
-      items_found claim_at claim_text claim_exact (codes "**}") claim_apart p.claims 200 a.0 c.0 s.few.claims c.1 claims_end,
+      claims,
       middle_found p.frame p.body c.0 m.0 v.1 m.1,
-      items_found assign_at assign_text assign_exact (codes "**}") assign_apart p.assigns 200 m.0 t.0 s.few.assigns t.1 assigns_end,
+      assigns,
       all_fixed_found (end_texts p.name p.frame p.body) t.0 s.end seen t.2,
       s.white,
     ) refl
 
 -- ---- the rules
 
-formula_tokens : (f : Formula) (rest : List Terminal) → length ((formula_text f ++ Fixed (codes ";") ∷ []) ++ rest) ≡ suc (suc (length rest))
-formula_tokens (Truth holds) rest = refl
-formula_tokens (Named name) rest = refl
+abbrev tokens : Package → ℕ
+tokens p = length (flat_map claim_text p.claims) + length (flat_map assign_text p.assigns)
 
-claim_tokens : (cs : List Claim) → length (flat_map claim_text cs) ≡ 5 * length cs
-claim_tokens [] = refl
-claim_tokens (c ∷ cs) = omega (arith, formula_tokens c.formula (flat_map claim_text cs), claim_tokens cs)
-
-assign_tokens : (xs : List Assign) → length (flat_map assign_text xs) ≡ 5 * length xs
-assign_tokens [] = refl
-assign_tokens (x ∷ xs) = omega (arith, formula_tokens x.value (flat_map assign_text xs), assign_tokens xs)
-
-keeps : (p : Package) → length p.ports ≤ 12 → is_well_formed p ≡ true → IsWellFormed p
-keeps p few h =
+keeps : (b : List ℕ) (p : Package) → IsSpelled b p → is_well_formed p ≡ true → IsWellFormed p
+keeps b p s h =
     let claims_fit = list_all (λ c. all_names (names_port p.ports) c.formula) p.claims in
-    let a = and_parts (ports_differ p.ports && claims_fit && all_follow p.ports [] p.assigns) (leb (length p.claims + length p.assigns) 200) h in
+    let a = and_parts (ports_differ p.ports && claims_fit && all_follow p.ports [] p.assigns) (leb (tokens p) 1000) h in
     let b = and_parts (ports_differ p.ports && claims_fit) (all_follow p.ports [] p.assigns) a.0 in
     let c = and_parts (ports_differ p.ports) claims_fit b.0 in
-    let few_clauses = leb-true (length p.claims + length p.assigns) 200 a.1 in
     record {
-      few_ports = few;
+      few_ports = s.few_ports;
       different_ports = c.0;
       claims_name_ports = c.1;
       assigns_in_order = b.1;
-      few_tokens = omega (arith, claim_tokens p.claims, assign_tokens p.assigns);
+      claims_in_form = s.claims;
+      assigns_in_form = s.assigns;
+      few_tokens = leb-true (tokens p) 1000 a.1;
     }
 
 pub few_clauses : (p : Package) → IsWellFormed p → length p.claims + length p.assigns ≤ 200
-few_clauses p k = omega (arith, k.few_tokens, claim_tokens p.claims, assign_tokens p.assigns)
-
-few_from : (p : Package) → IsWellFormed p → HasFew p
-few_from p k = record {
-  ports = k.few_ports;
-  claims = omega (arith, claim_tokens p.claims, assign_tokens p.assigns);
-  assigns = omega (arith, claim_tokens p.claims, assign_tokens p.assigns);
-}
+few_clauses p k = omega (arith, k.few_tokens, claims_tokens p.claims, assigns_tokens p.assigns)
 
 is_kept : (p : Package) → IsWellFormed p → is_well_formed p ≡ true
 is_kept p k =
-    let few : leb (length p.claims + length p.assigns) 200 ≡ true = le-leb _ _ (omega (arith, claim_tokens p.claims, assign_tokens p.assigns)) in
+    let few : leb (tokens p) 1000 ≡ true = le-leb (tokens p) 1000 k.few_tokens in
     rw (k.different_ports, k.claims_name_ports, k.assigns_in_order, few) refl
 
 pub reads_spelled : (b : List ℕ) (p : Package) → read_of b ≡ Some p → Reads b p
@@ -221,12 +210,20 @@ reads_spelled b p e =
     let a = bind_some (package_at b) (λ q. cond (is_well_formed q) (Some q) None) p e in
     let k = guard_some (is_well_formed a.0) a.0 p a.2 in
     let s = package_spells b a.0 a.1 in
-    subst (λ (r : Package). Reads b r) k.1 (record { end = s.end; spelled = s.spelled; white = s.white; kept = keeps a.0 s.few.ports k.0 })
+    subst (λ (r : Package). Reads b r) k.1 (record { end = s.end; spelled = s.spelled; white = s.white; kept = keeps b a.0 s k.0 })
 
 pub reads_found : (b : List ℕ) (p : Package) → Reads b p → read_of b ≡ Some p
 unfolding read_of
 reads_found b p r =
-    rw (package_found b p (record { end = r.end; spelled = r.spelled; white = r.white; few = few_from p r.kept }), is_kept p r.kept) refl
+    let s : IsSpelled b p = record {
+      end = r.end;
+      spelled = r.spelled;
+      white = r.white;
+      few_ports = r.kept.few_ports;
+      claims = r.kept.claims_in_form;
+      assigns = r.kept.assigns_in_form;
+    } in
+    rw (package_found b p s r.kept.few_tokens, is_kept p r.kept) refl
 
 -- no bytes spell two packages
 pub one_reading_lem : (b : List ℕ) (p q : Package) → Reads b p → Reads b q → p ≡ q

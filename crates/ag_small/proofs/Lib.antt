@@ -1,10 +1,17 @@
 pub mod Bytes
 pub mod Loop
+pub mod Levels
 pub mod Tools
 pub mod Terminals
+pub mod Tokens
+pub mod Spelled
+pub mod Sound
+pub mod Complete
 pub mod Parts
 pub mod Laws
 pub mod Streams
+pub mod Numbering
+pub mod Placed
 pub mod Formed
 pub mod Meaning
 pub mod Carry

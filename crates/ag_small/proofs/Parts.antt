@@ -1,51 +1,30 @@
 -- Each part of the grammar is what its reading function finds, and nothing else.
-use Rattle.std.proofs.Common.{◌≡◌, ℕ, zero, suc, ◌≤◌, Bool, true, false, cond, eqb, ◌⊎◌, List, [], ◌∷◌, ◌++◌, length, Option, Some, None, refl, sym, ap, subst, inl, inr, arith}
+use Rattle.std.proofs.Common.{◌≡◌, ℕ, zero, suc, ◌≤◌, Bool, true, false, cond, eqb, leb, ◌⊎◌, List, [], ◌∷◌, length, Option, Some, None, refl, ap, subst, inl, inr, arith}
 use Rattle.std.specs.Prelude.{codes, is_some}
 use Rattle.std.specs.List.{list_all, flat_map}
-use Rattle.std.proofs.lemmas.Bool.{and_parts}
+use Rattle.std.proofs.lemmas.Bool.{and_parts, and_from, leb-true, le-leb}
+use Rattle.std.proofs.lemmas.List.{length-append}
 use Rattle.ag_small.specs.declared.package.Port.{Port}
 use Rattle.ag_small.specs.declared.package.Claim.{Claim}
 use Rattle.ag_small.specs.declared.package.ClaimKind.{ClaimKind}
 use Rattle.ag_small.specs.declared.package.ClaimKind.TheVariants.{Assume, Guarantee}
 use Rattle.ag_small.specs.declared.package.Assign.{Assign}
 use Rattle.ag_small.specs.declared.package.Formula.{Formula}
-use Rattle.ag_small.specs.declared.package.Formula.TheVariants.{Truth, Named}
 use Rattle.ag_small.specs.Characters.{folded}
-use Rattle.ag_small.specs.Grammar.{Terminal, Fixed, Name, Stands, Spells, fixed, direction_text, port_text, formula_text, kind_text, claim_text, assign_text}
-use Rattle.ag_small.specs.Reading.{◌>>=◌, or_else, either_at, fixed_at, all_fixed_at, name_at, label_at, formula_at, direction_at, kind_at, port_at, claim_at, assign_at, items_at}
+use Rattle.ag_small.specs.Grammar.{Terminal, Fixed, Stands, Spells, direction_text, port_text, formula_text, kind_text, claim_text, assign_text, is_grouped}
+use Rattle.ag_small.specs.Rules.{depth, is_in_form}
+use Rattle.ag_small.specs.Reading.{expression_with, below, ◌>>=◌, or_else, either_at, fixed_at, all_fixed_at, name_at, label_at, formula_at, direction_at, kind_at, port_at, claim_at, assign_at, items_at}
 use Rattle.ag_small.proofs.Tools.{bind_some, some_is}
-use Rattle.ag_small.proofs.Terminals.{visible, first, fixed_stands, fixed_found, fixed_apart, name_stands, name_found, label_stands, label_found, not_annex, not_true, not_false}
-
-pub spells_joined : (ts us : List Terminal) (b m r : List ℕ) → Spells ts b m → Spells us m r → Spells (ts ++ us) b r
-spells_joined [] us b m r p q = subst (λ (x : List ℕ). Spells us x r) (sym p) q
-spells_joined (t ∷ ts) us b m r p q = (p.0, p.1, spells_joined ts us p.0 m r p.2 q)
-
-pub spells_split : (ts us : List Terminal) (b r : List ℕ) → Spells (ts ++ us) b r → (m : List ℕ) × Spells ts b m × Spells us m r
-spells_split [] us b r p = (b, refl, p)
-spells_split (t ∷ ts) us b r p = let k = spells_split ts us p.0 r p.2 in (k.0, (p.0, p.1, k.1), k.2)
-
-pub all_fixed_spell : (ts : List (List ℕ)) (b r : List ℕ) → all_fixed_at ts b ≡ Some r → Spells (fixed ts) b r
-all_fixed_spell [] b r e = some_is b r e
-all_fixed_spell (t ∷ ts) b r e =
-    let a = bind_some (fixed_at t b) (λ x. all_fixed_at ts x) r e in
-    (a.0, fixed_stands t b a.0 a.1, all_fixed_spell ts a.0 r a.2)
-
-pub all_fixed_found : (ts : List (List ℕ)) (b r : List ℕ) → list_all visible ts ≡ true → Spells (fixed ts) b r → all_fixed_at ts b ≡ Some r
-all_fixed_found [] b r v s = ap (λ (x : List ℕ). Some x) s
-all_fixed_found (t ∷ ts) b r v s =
-    let p = and_parts (visible t) (list_all visible ts) v in
-    rw (fixed_found t b s.0 p.0 s.1) (all_fixed_found ts s.0 r p.1 s.2)
+use Rattle.ag_small.proofs.Tokens.{claim_tokens, assign_tokens}
+use Rattle.ag_small.proofs.Spelled.{spells_joined, spells_split, all_fixed_spell, all_fixed_found, one_fixed}
+use Rattle.ag_small.proofs.Sound.{expression_sound, below_sound}
+use Rattle.ag_small.proofs.Complete.{Fits, Ends, ends_semicolon, is_found}
+use Rattle.ag_small.proofs.Terminals.{visible, first, fixed_stands, fixed_found, fixed_apart, name_stands, name_found, label_stands, label_found, not_annex}
 
 -- a reading function that finds exactly what text spells
 pub record IsExact {A : Type 0} (read : List ℕ → Option (A × List ℕ)) (text : A → List Terminal) : Type 0 where
   pub sound : (b : List ℕ) (x : A × List ℕ) → read b ≡ Some x → Spells (text x.0) b x.1
   pub complete : (b : List ℕ) (a : A) (r : List ℕ) → Spells (text a) b r → read b ≡ Some (a, r)
-
-one_fixed : (t : List ℕ) (b r : List ℕ) → Spells (Fixed t ∷ []) b r → Stands (Fixed t) b r
-one_fixed t b r s = subst (λ (m : List ℕ). Stands (Fixed t) b m) s.2 s.1
-
-one_name : (n : List ℕ) (b r : List ℕ) → Spells (Name n ∷ []) b r → Stands (Name n) b r
-one_name n b r s = subst (λ (m : List ℕ). Stands (Name n) b m) s.2 s.1
 
 module _ {A : Type 0} (text : A → List ℕ) (x y : A) where
   either_sound : (b : List ℕ) (o p : Option (List ℕ)) (z : A × List ℕ) → fixed_at (text x) b ≡ o → fixed_at (text y) b ≡ p
@@ -86,31 +65,28 @@ kind_exact = either_exact kind_text Assume Guarantee refl refl refl kind_cases
 
 -- ---- formulas
 
-formula_sound : (b : List ℕ) (o p : Option (List ℕ)) (q : Option (List ℕ × List ℕ)) (z : Formula × List ℕ) → fixed_at (codes "true") b ≡ o → fixed_at (codes "false") b ≡ p → name_at b ≡ q
-    → or_else (or_else (o >>= λ rest. Some (Truth true, rest)) (p >>= λ rest. Some (Truth false, rest))) (q >>= λ n. Some (Named n.0, n.1)) ≡ Some z → Spells (formula_text z.0) b z.1
-formula_sound b (Some r) p q z eo ep eq e = subst (λ (w : Formula × List ℕ). Spells (formula_text w.0) b w.1) (some_is (Truth true, r) z e) (r, fixed_stands (codes "true") b r eo, refl)
-formula_sound b None (Some r) q z eo ep eq e = subst (λ (w : Formula × List ℕ). Spells (formula_text w.0) b w.1) (some_is (Truth false, r) z e) (r, fixed_stands (codes "false") b r ep, refl)
-formula_sound b None None (Some n) z eo ep eq e = subst (λ (w : Formula × List ℕ). Spells (formula_text w.0) b w.1) (some_is (Named n.0, n.1) z e) (n.1, name_stands b n eq, refl)
-formula_sound b None None None z eo ep eq e = absurd cc
-
-formula_found : (b : List ℕ) (f : Formula) (r : List ℕ) → Spells (formula_text f) b r → formula_at b ≡ Some (f, r)
+formula_sound : (b : List ℕ) (x : Formula × List ℕ) → formula_at b ≡ Some x → Spells (formula_text x.0) b x.1 × (is_in_form x.0 ≡ true)
 unfolding formula_at
-formula_found b (Truth true) r s = rw (fixed_found (codes "true") b r refl (one_fixed (codes "true") b r s)) refl
-formula_found b (Truth false) r s =
-    let t = one_fixed (codes "false") b r s in
-    rw (fixed_apart (codes "false") (codes "true") b r t refl refl refl, fixed_found (codes "false") b r refl t) refl
-formula_found b (Named n) r s =
-    let t = one_name n b r s in
-    rw (not_true n b r t, not_false n b r t, name_found n b r t) refl
+formula_sound b x e =
+    let a = bind_some (expression_with (below 200) b) _ x e in
+    let p = expression_sound 200 (below 200) (below_sound 200) b a.0 a.1 in
+    let form = and_from (is_grouped a.0.0.0) (leb (depth a.0.0.0) 200) p.grouped (le-leb (depth a.0.0.0) 200 (omega (arith, p.deep))) in
+    subst (λ (w : Formula × List ℕ). Spells (formula_text w.0) b w.1 × (is_in_form w.0 ≡ true)) (some_is (a.0.0.0, a.0.1) x a.2) (p.spelled, form)
 
-formula_exact : IsExact formula_at formula_text
+-- a formula before what is no operator
+formula_found : (b : List ℕ) (f : Formula) (r : List ℕ) → is_in_form f ≡ true → length (formula_text f) ≤ 1000 → Ends r → Spells (formula_text f) b r → formula_at b ≡ Some (f, r)
 unfolding formula_at
-formula_exact = record {
-  sound = λ b z e. formula_sound b (fixed_at (codes "true") b) (fixed_at (codes "false") b) (name_at b) z refl refl refl e;
-  complete = formula_found;
-}
+formula_found b f r form few ends s =
+    let parts = and_parts (is_grouped f) (leb (depth f) 200) form in
+    let fits : Fits f 200 b r = record { grouped = parts.0; deep = leb-true (depth f) 200 parts.1; few = few; spelled = s } in
+    rw ((is_found f).expression 200 b r fits ends) refl
 
 -- ---- ports, claims, assigns
+
+-- a reading function that finds exactly what text spells of the items in form that have few tokens
+pub record IsItem {A : Type 0} (read : List ℕ → Option (A × List ℕ)) (text : A → List Terminal) (form : A → Bool) : Type 0 where
+  pub sound : (b : List ℕ) (x : A × List ℕ) → read b ≡ Some x → Spells (text x.0) b x.1 × (form x.0 ≡ true)
+  pub complete : (b : List ℕ) (a : A) (r : List ℕ) → form a ≡ true → length (text a) ≤ 1000 → Spells (text a) b r → read b ≡ Some (a, r)
 
 abbrev port_type : List (List ℕ)
 port_type = codes "data" ∷ codes "port" ∷ codes "Base_Types" ∷ codes "::" ∷ codes "Boolean" ∷ codes ";" ∷ []
@@ -133,10 +109,16 @@ port_found b q r s =
     let d = c.2 in
     rw (name_found q.name b s.0 s.1, fixed_found (codes ":") s.0 c.0 refl c.1, direction_exact.complete c.0 q.outward d.0 (d.0, d.1, refl), all_fixed_found port_type d.0 r refl d.2) refl
 
-pub port_exact : IsExact port_at port_text
-port_exact = record { sound = port_sound; complete = port_found }
+abbrev pub port_form : Port → Bool
+port_form q = true
 
-claim_sound : (b : List ℕ) (x : Claim × List ℕ) → claim_at b ≡ Some x → Spells (claim_text x.0) b x.1
+pub port_item : IsItem port_at port_text port_form
+port_item = record { sound = λ b x e. (port_sound b x e, refl); complete = λ b q r form few s. port_found b q r s }
+
+abbrev pub claim_form : Claim → Bool
+claim_form c = is_in_form c.formula
+
+claim_sound : (b : List ℕ) (x : Claim × List ℕ) → claim_at b ≡ Some x → Spells (claim_text x.0) b x.1 × (claim_form x.0 ≡ true)
 unfolding claim_at
 claim_sound b x e =
     let k = bind_some (kind_at b) (λ kind. label_at kind.1 >>= λ label. fixed_at (codes ":") label.1 >>= λ rest. formula_at rest >>= λ f. fixed_at (codes ";") f.1 >>= λ end. Some (record { kind = kind.0; label = label.0; formula = f.0 }, end)) x e in
@@ -144,23 +126,29 @@ claim_sound b x e =
     let c = bind_some (fixed_at (codes ":") l.0.1) (λ rest. formula_at rest >>= λ f. fixed_at (codes ";") f.1 >>= λ end. Some (record { kind = k.0.0; label = l.0.0; formula = f.0 }, end)) x l.2 in
     let f = bind_some (formula_at c.0) (λ f. fixed_at (codes ";") f.1 >>= λ end. Some (record { kind = k.0.0; label = l.0.0; formula = f.0 }, end)) x c.2 in
     let t = bind_some (fixed_at (codes ";") f.0.1) (λ end. Some (record { kind = k.0.0; label = l.0.0; formula = f.0.0 }, end)) x f.2 in
+    let read = formula_sound c.0 f.0 f.1 in
     let made : Claim × List ℕ = (record { kind = k.0.0; label = l.0.0; formula = f.0.0 }, t.0) in
-    let tail = spells_joined (formula_text f.0.0) (Fixed (codes ";") ∷ []) c.0 f.0.1 t.0 (formula_exact.sound c.0 f.0 f.1) (t.0, fixed_stands (codes ";") f.0.1 t.0 t.1, refl) in
-    subst (λ (w : Claim × List ℕ). Spells (claim_text w.0) b w.1) (some_is made x t.2)
-    (k.0.1, one_fixed (kind_text k.0.0) b k.0.1 (kind_exact.sound b k.0 k.1), (l.0.1, label_stands k.0.1 l.0 l.1, (c.0, fixed_stands (codes ":") l.0.1 c.0 c.1, tail)))
+    let tail = spells_joined (formula_text f.0.0) (Fixed (codes ";") ∷ []) c.0 f.0.1 t.0 read.0 (t.0, fixed_stands (codes ";") f.0.1 t.0 t.1, refl) in
+    let stands : Spells (claim_text made.0) b made.1 = (k.0.1, one_fixed (kind_text k.0.0) b k.0.1 (kind_exact.sound b k.0 k.1), (l.0.1, label_stands k.0.1 l.0 l.1, (c.0, fixed_stands (codes ":") l.0.1 c.0 c.1, tail))) in
+    subst (λ (w : Claim × List ℕ). Spells (claim_text w.0) b w.1 × (claim_form w.0 ≡ true)) (some_is made x t.2) (stands, read.1)
 
-claim_found : (b : List ℕ) (q : Claim) (r : List ℕ) → Spells (claim_text q) b r → claim_at b ≡ Some (q, r)
+claim_found : (b : List ℕ) (q : Claim) (r : List ℕ) → claim_form q ≡ true → length (claim_text q) ≤ 1000 → Spells (claim_text q) b r → claim_at b ≡ Some (q, r)
 unfolding claim_at
-claim_found b q r s =
+claim_found b q r form few s =
     let l = s.2 in
     let c = l.2 in
     let f = spells_split (formula_text q.formula) (Fixed (codes ";") ∷ []) c.0 r c.2 in
-    rw (kind_exact.complete b q.kind s.0 (s.0, s.1, refl), label_found q.label s.0 l.0 l.1, fixed_found (codes ":") l.0 c.0 refl c.1, formula_exact.complete c.0 q.formula f.0 f.1, fixed_found (codes ";") f.0 r refl (one_fixed (codes ";") f.0 r f.2)) refl
+    let stop = one_fixed (codes ";") f.0 r f.2 in
+    let found = formula_found c.0 q.formula f.0 form (omega (arith, few, claim_tokens q)) (ends_semicolon f.0 r stop) f.1 in
+    rw (kind_exact.complete b q.kind s.0 (s.0, s.1, refl), label_found q.label s.0 l.0 l.1, fixed_found (codes ":") l.0 c.0 refl c.1, found, fixed_found (codes ";") f.0 r refl stop) refl
 
-pub claim_exact : IsExact claim_at claim_text
-claim_exact = record { sound = claim_sound; complete = claim_found }
+pub claim_item : IsItem claim_at claim_text claim_form
+claim_item = record { sound = claim_sound; complete = claim_found }
 
-assign_sound : (b : List ℕ) (x : Assign × List ℕ) → assign_at b ≡ Some x → Spells (assign_text x.0) b x.1
+abbrev pub assign_form : Assign → Bool
+assign_form a = is_in_form a.value
+
+assign_sound : (b : List ℕ) (x : Assign × List ℕ) → assign_at b ≡ Some x → Spells (assign_text x.0) b x.1 × (assign_form x.0 ≡ true)
 unfolding assign_at
 assign_sound b x e =
     let k = bind_some (fixed_at (codes "assign") b) (λ rest. name_at rest >>= λ name. fixed_at (codes "=") name.1 >>= λ equals. formula_at equals >>= λ f. fixed_at (codes ";") f.1 >>= λ end. Some (record { name = name.0; value = f.0 }, end)) x e in
@@ -168,53 +156,70 @@ assign_sound b x e =
     let c = bind_some (fixed_at (codes "=") n.0.1) (λ equals. formula_at equals >>= λ f. fixed_at (codes ";") f.1 >>= λ end. Some (record { name = n.0.0; value = f.0 }, end)) x n.2 in
     let f = bind_some (formula_at c.0) (λ f. fixed_at (codes ";") f.1 >>= λ end. Some (record { name = n.0.0; value = f.0 }, end)) x c.2 in
     let t = bind_some (fixed_at (codes ";") f.0.1) (λ end. Some (record { name = n.0.0; value = f.0.0 }, end)) x f.2 in
+    let read = formula_sound c.0 f.0 f.1 in
     let made : Assign × List ℕ = (record { name = n.0.0; value = f.0.0 }, t.0) in
-    let tail = spells_joined (formula_text f.0.0) (Fixed (codes ";") ∷ []) c.0 f.0.1 t.0 (formula_exact.sound c.0 f.0 f.1) (t.0, fixed_stands (codes ";") f.0.1 t.0 t.1, refl) in
-    subst (λ (w : Assign × List ℕ). Spells (assign_text w.0) b w.1) (some_is made x t.2)
-    (k.0, fixed_stands (codes "assign") b k.0 k.1, (n.0.1, name_stands k.0 n.0 n.1, (c.0, fixed_stands (codes "=") n.0.1 c.0 c.1, tail)))
+    let tail = spells_joined (formula_text f.0.0) (Fixed (codes ";") ∷ []) c.0 f.0.1 t.0 read.0 (t.0, fixed_stands (codes ";") f.0.1 t.0 t.1, refl) in
+    let stands : Spells (assign_text made.0) b made.1 = (k.0, fixed_stands (codes "assign") b k.0 k.1, (n.0.1, name_stands k.0 n.0 n.1, (c.0, fixed_stands (codes "=") n.0.1 c.0 c.1, tail))) in
+    subst (λ (w : Assign × List ℕ). Spells (assign_text w.0) b w.1 × (assign_form w.0 ≡ true)) (some_is made x t.2) (stands, read.1)
 
-assign_found : (b : List ℕ) (q : Assign) (r : List ℕ) → Spells (assign_text q) b r → assign_at b ≡ Some (q, r)
+assign_found : (b : List ℕ) (q : Assign) (r : List ℕ) → assign_form q ≡ true → length (assign_text q) ≤ 1000 → Spells (assign_text q) b r → assign_at b ≡ Some (q, r)
 unfolding assign_at
-assign_found b q r s =
+assign_found b q r form few s =
     let n = s.2 in
     let c = n.2 in
     let f = spells_split (formula_text q.value) (Fixed (codes ";") ∷ []) c.0 r c.2 in
-    rw (fixed_found (codes "assign") b s.0 refl s.1, name_found q.name s.0 n.0 n.1, fixed_found (codes "=") n.0 c.0 refl c.1, formula_exact.complete c.0 q.value f.0 f.1, fixed_found (codes ";") f.0 r refl (one_fixed (codes ";") f.0 r f.2)) refl
+    let stop = one_fixed (codes ";") f.0 r f.2 in
+    let found = formula_found c.0 q.value f.0 form (omega (arith, few, assign_tokens q)) (ends_semicolon f.0 r stop) f.1 in
+    rw (fixed_found (codes "assign") b s.0 refl s.1, name_found q.name s.0 n.0 n.1, fixed_found (codes "=") n.0 c.0 refl c.1, found, fixed_found (codes ";") f.0 r refl stop) refl
 
-pub assign_exact : IsExact assign_at assign_text
-assign_exact = record { sound = assign_sound; complete = assign_found }
+pub assign_item : IsItem assign_at assign_text assign_form
+assign_item = record { sound = assign_sound; complete = assign_found }
 
 -- ---- items
+
+-- at most n items in form stand at b
+pub record AreItems {A : Type 0} (text : A → List Terminal) (form : A → Bool) (n : ℕ) (b : List ℕ) (items : List A) (r : List ℕ) : Type 0 where
+  pub spelled : Spells (flat_map text items) b r
+  pub few : length items ≤ n
+  pub in_form : list_all form items ≡ true
 
 item_test : {A : Type 0} (t : Bool) (x y : Option A) (z : Option A) → cond t x y ≡ z → ((t ≡ true) × (x ≡ z)) ⊎ ((t ≡ false) × (y ≡ z))
 item_test true x y z e = inl (refl, e)
 item_test false x y z e = inr (refl, e)
 
-module _ {A : Type 0} (item_at : List ℕ → Option (A × List ℕ)) (text : A → List Terminal) (exact : IsExact item_at text) (stop : List ℕ) where
-  pub items_spell : (n : ℕ) (b : List ℕ) (x : List A × List ℕ) → items_at item_at stop n b ≡ Some x → Spells (flat_map text x.0) b x.1 × (length x.0 ≤ n)
+module _ {A : Type 0} (item_at : List ℕ → Option (A × List ℕ)) (text : A → List Terminal) (form : A → Bool) (item : IsItem item_at text form) (stop : List ℕ) where
+  pub items_spell : (n : ℕ) (b : List ℕ) (x : List A × List ℕ) → items_at item_at stop n b ≡ Some x → AreItems text form n b x.0 x.1
   unfolding items_at
-  items_spell zero b x e = subst (λ (w : List A × List ℕ). Spells (flat_map text w.0) b w.1 × (length w.0 ≤ 0)) (some_is ([], b) x e) (refl, omega arith)
+  items_spell zero b x e = subst (λ (w : List A × List ℕ). AreItems text form 0 b w.0 w.1) (some_is ([], b) x e) (record { spelled = refl; few = omega arith; in_form = refl })
   items_spell (suc n) b x e =
       elim (item_test (is_some (fixed_at stop b)) (Some ([], b)) (item_at b >>= λ first. items_at item_at stop n first.1 >>= λ others. Some (first.0 ∷ others.0, others.1)) (Some x) e) [
-        | inl none ↦ subst (λ (w : List A × List ℕ). Spells (flat_map text w.0) b w.1 × (length w.0 ≤ suc n)) (some_is ([], b) x none.1) (refl, omega arith)
+        | inl none ↦ subst (λ (w : List A × List ℕ). AreItems text form (suc n) b w.0 w.1) (some_is ([], b) x none.1) (record { spelled = refl; few = omega arith; in_form = refl })
         | inr more ↦
             let a = bind_some (item_at b) (λ first. items_at item_at stop n first.1 >>= λ others. Some (first.0 ∷ others.0, others.1)) x more.1 in
             let o = bind_some (items_at item_at stop n a.0.1) (λ others. Some (a.0.0 ∷ others.0, others.1)) x a.2 in
             let rest = items_spell n a.0.1 o.0 o.1 in
+            let first = item.sound b a.0 a.1 in
             let made : List A × List ℕ = (a.0.0 ∷ o.0.0, o.0.1) in
-            subst (λ (w : List A × List ℕ). Spells (flat_map text w.0) b w.1 × (length w.0 ≤ suc n)) (some_is made x o.2)
-            (spells_joined (text a.0.0) (flat_map text o.0.0) b a.0.1 o.0.1 (exact.sound b a.0 a.1) rest.0, omega (arith, rest.1))
+            subst (λ (w : List A × List ℕ). AreItems text form (suc n) b w.0 w.1) (some_is made x o.2) (record {
+              spelled = spells_joined (text a.0.0) (flat_map text o.0.0) b a.0.1 o.0.1 first.0 rest.spelled;
+              few = omega (arith, rest.few);
+              in_form = and_from (form a.0.0) (list_all form o.0.0) first.1 rest.in_form;
+            })
       ]
 
   pub items_found : ((b : List ℕ) (a : A) (r : List ℕ) → Spells (text a) b r → fixed_at stop b ≡ None) → (items : List A) (n : ℕ) (b r : List ℕ)
-      → length items ≤ n → Spells (flat_map text items) b r → is_some (fixed_at stop r) ≡ true → items_at item_at stop n b ≡ Some (items, r)
+      → length items ≤ n → list_all form items ≡ true → length (flat_map text items) ≤ 1000 → Spells (flat_map text items) b r → is_some (fixed_at stop r) ≡ true
+      → items_at item_at stop n b ≡ Some (items, r)
   unfolding items_at
-  items_found apart [] zero b r short s here = ap (λ (x : List ℕ). Some ([], x)) s
-  items_found apart [] (suc n) b r short s here = rw (s, here) refl
-  items_found apart (a ∷ items) zero b r short s here = absurd (omega arith)
-  items_found apart (a ∷ items) (suc n) b r short s here =
+  items_found apart [] zero b r short forms few s here = ap (λ (x : List ℕ). Some ([], x)) s
+  items_found apart [] (suc n) b r short forms few s here = rw (s, here) refl
+  items_found apart (a ∷ items) zero b r short forms few s here = absurd (omega arith)
+  items_found apart (a ∷ items) (suc n) b r short forms few s here =
       let k = spells_split (text a) (flat_map text items) b r s in
-      rw (apart b a k.0 k.1, exact.complete b a k.0 k.1, items_found apart items n k.0 r (omega arith) k.2 here) refl
+      let f = and_parts (form a) (list_all form items) forms in
+      let tokens = length-append (text a) (flat_map text items) in
+      let first = item.complete b a k.0 f.0 (omega (arith, few, tokens)) k.1 in
+      rw (apart b a k.0 k.1, first, items_found apart items n k.0 r (omega arith) f.1 (omega (arith, few, tokens)) k.2 here) refl
 
 pub port_apart : (b : List ℕ) (q : Port) (r : List ℕ) → Spells (port_text q) b r → fixed_at (codes "annex") b ≡ None
 port_apart b q r s = not_annex q.name b s.0 s.1

@@ -233,6 +233,29 @@ not_false n b r s =
     let free = reserved_parts n (name_parts n s.spelled.1).free in
     name_apart n (codes "false") b r s refl (list_any_false (λ w. same n w) annex_words 14 [] free.1 (lit< tt))
 
+pub not_not : (n b r : List ℕ) → Stands (Name n) b r → fixed_at (codes "not") b ≡ None
+unfolding annex_words
+not_not n b r s =
+    let free = reserved_parts n (name_parts n s.spelled.1).free in
+    name_apart n (codes "not") b r s refl (list_any_false (λ w. same n w) annex_words 22 [] free.1 (lit< tt))
+
+letter_first : (n : List ℕ) → begins is_ascii_alphabetic n ≡ true → first (folded n) ≡ 40 → ⊥
+letter_first [] h e = absurd cc
+letter_first (c ∷ cs) h e = no_letter c h e
+  where
+    no_letter : (c : ℕ) → is_ascii_alphabetic c ≡ true → to_ascii_lowercase c ≡ 40 → ⊥
+    no_letter c h e = grind (arith, nat_tests)
+
+pub not_open : (n b r : List ℕ) → Stands (Name n) b r → fixed_at (codes "(") b ≡ None
+not_open n b r s =
+    none_from (fixed_at (codes "(") b) (λ q e.
+    let f = fixed_stands (codes "(") b q e in
+    let seen = visible_same f.own (codes "(") f.spelled refl in
+    let at = word_at n b r s in
+    let letter = (name_parts n s.spelled.1).letter in
+    let h : n ++ r ≡ f.own ++ q = sym at.here ∙ here_is (Fixed (codes "(")) b q f seen in
+    letter_first n letter (heads n r f.own q (letter_visible n letter) seen h ∙ ap first f.spelled))
+
 -- ---- labels
 
 quote_fold : (o : ℕ) → to_ascii_lowercase o ≡ 34 → o ≡ 34

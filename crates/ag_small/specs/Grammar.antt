@@ -1,5 +1,5 @@
 -- The grammar: which terminals a package is written as, and which bytes terminals are spelled as.
-use Rattle.std.specs.Prelude.{◌≡◌, ℕ, Bool, not, List, [], ◌∷◌, ◌++◌, map, ◌&&◌, IsTrue, codes, if◌then◌else◌}
+use Rattle.std.specs.Prelude.{◌≡◌, ℕ, Bool, true, not, nat_le, List, [], ◌∷◌, ◌++◌, map, ◌&&◌, IsTrue, codes, if◌then◌else◌}
 use Rattle.std.specs.Char.{is_ascii_alphabetic}
 use Rattle.std.specs.List.{list_all, flat_map}
 use Rattle.ag_small.specs.declared.package.Package.{Package}
@@ -9,7 +9,7 @@ use Rattle.ag_small.specs.declared.package.ClaimKind.{ClaimKind}
 use Rattle.ag_small.specs.declared.package.ClaimKind.TheVariants.{Assume, Guarantee}
 use Rattle.ag_small.specs.declared.package.Assign.{Assign}
 use Rattle.ag_small.specs.declared.package.Formula.{Formula}
-use Rattle.ag_small.specs.declared.package.Formula.TheVariants.{Truth, Named}
+use Rattle.ag_small.specs.Expressions.{Truth, Named, Group, Not, And, Or, Implies}
 use Rattle.ag_small.specs.Characters.{is_space, is_word_byte, is_label_byte, begins, folded, is_name}
 
 -- Fixed: a reserved word, a name met again or a sign, in any case. Name: a name as it stands. Label: the text between quotes.
@@ -50,13 +50,38 @@ port_text p =
     Name p.name ∷ Fixed (codes ":") ∷ Fixed (direction_text p.outward)
     ∷ fixed (codes "data" ∷ codes "port" ∷ codes "Base_Types" ∷ codes "::" ∷ codes "Boolean" ∷ codes ";" ∷ [])
 
--- "true" | "false" | name
+-- "true" | "false" | name | "(" formula ")" | "not" formula | formula "and" formula | formula "or" formula | formula "=>" formula
 abbrev pub truth_text : Bool → List ℕ
 truth_text holds = if holds then codes "true" else codes "false"
 
 abbrev pub formula_text : Formula → List Terminal
 formula_text (Truth holds) = Fixed (truth_text holds) ∷ []
 formula_text (Named name) = Name name ∷ []
+formula_text (Group f) = Fixed (codes "(") ∷ (formula_text f ++ Fixed (codes ")") ∷ [])
+formula_text (Not f) = Fixed (codes "not") ∷ formula_text f
+formula_text (And f g) = formula_text f ++ (Fixed (codes "and") ∷ formula_text g)
+formula_text (Or f g) = formula_text f ++ (Fixed (codes "or") ∷ formula_text g)
+formula_text (Implies f g) = formula_text f ++ (Fixed (codes "=>") ∷ formula_text g)
+
+-- how tightly a formula's outermost operator binds
+abbrev pub tightness : Formula → ℕ
+tightness (Implies f g) = 0
+tightness (Or f g) = 1
+tightness (And f g) = 2
+tightness (Not f) = 3
+tightness (Group f) = 3
+tightness (Named name) = 3
+tightness (Truth holds) = 3
+
+-- each operand without parentheses binds tightly enough: `and` and `or` group from the left, `=>` from the right
+abbrev pub is_grouped : Formula → Bool
+is_grouped (Implies f g) = nat_le 1 (tightness f) && is_grouped f && is_grouped g
+is_grouped (Or f g) = nat_le 1 (tightness f) && nat_le 2 (tightness g) && is_grouped f && is_grouped g
+is_grouped (And f g) = nat_le 2 (tightness f) && nat_le 3 (tightness g) && is_grouped f && is_grouped g
+is_grouped (Not f) = nat_le 3 (tightness f) && is_grouped f
+is_grouped (Group f) = is_grouped f
+is_grouped (Named name) = true
+is_grouped (Truth holds) = true
 
 -- ( "assume" | "guarantee" ) Text ":" formula ";"
 abbrev pub kind_text : ClaimKind → List ℕ

@@ -6,3 +6,6 @@ pub mod Reading
 pub mod Named
 pub mod Numbered
 pub mod Carried
+pub mod Expressions
+pub mod Nodes
+pub mod Places

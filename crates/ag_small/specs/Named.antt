@@ -1,12 +1,12 @@
 -- The layer by name: what its runs are, and when a verdict is true of one of its obligations. No number occurs here.
-use Rattle.std.specs.Prelude.{◌≡◌, ◌-◌, ◌<◌, ◌≤◌, ℕ, Bool, true, false, List, [], length, map, All, Option, Some, None, IsSome, IsNone, IsSomeAnd, slice_get}
+use Rattle.std.specs.Prelude.{◌≡◌, ◌-◌, ◌<◌, ◌≤◌, ℕ, Bool, true, false, not, ◌&&◌, ◌||◌, List, [], length, map, All, Option, Some, None, IsSome, IsNone, IsSomeAnd, slice_get}
 use Rattle.std.specs.List.{filter}
 use Rattle.ag_small.specs.declared.package.Package.{Package}
 use Rattle.ag_small.specs.declared.package.ClaimKind.{ClaimKind}
 use Rattle.ag_small.specs.declared.package.ClaimKind.TheVariants.{Assume, Guarantee}
 use Rattle.ag_small.specs.declared.package.Assign.{Assign}
 use Rattle.ag_small.specs.declared.package.Formula.{Formula}
-use Rattle.ag_small.specs.declared.package.Formula.TheVariants.{Truth, Named}
+use Rattle.ag_small.specs.Expressions.{Truth, Named, Group, Not, And, Or, Implies}
 use Rattle.ag_small.specs.Characters.{folded}
 use Rattle.ag_stream.specs.declared.problem.Run.{Run}
 use Rattle.ag_stream.specs.declared.problem.Instant.{Instant}
@@ -29,6 +29,11 @@ value_at i name = i (folded name)
 abbrev pub formula_holds : NamedInstant → Formula → Bool
 formula_holds i (Truth holds) = holds
 formula_holds i (Named name) = value_at i name
+formula_holds i (Group f) = formula_holds i f
+formula_holds i (Not f) = not (formula_holds i f)
+formula_holds i (And f g) = formula_holds i f && formula_holds i g
+formula_holds i (Or f g) = formula_holds i f || formula_holds i g
+formula_holds i (Implies f g) = not (formula_holds i f) || formula_holds i g
 
 -- the assigned name has the value of its right side
 abbrev pub KeepsAssign : NamedInstant → Assign → Type 0

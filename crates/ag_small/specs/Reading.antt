@@ -1,7 +1,7 @@
 -- Reading from left to right: the private functions' contracts say what these give, and the laws of
 -- proofs/ say that they give exactly what the grammar has.
-use Rattle.std.specs.Prelude.{◌≡◌, ℕ, zero, suc, Bool, true, false, not, List, [], ◌∷◌, length, take, drop, Option, Some, None, option_and_then, is_some, Result, Ok, Err, nat_lt, nat_le, ◌+◌, ◌&&◌, codes, if◌then◌else◌}
-use Rattle.std.specs.List.{prefix_len, list_all}
+use Rattle.std.specs.Prelude.{◌≡◌, ℕ, zero, suc, Bool, true, false, not, List, [], ◌∷◌, length, take, drop, Option, Some, None, option_and_then, is_some, Result, Ok, Err, nat_lt, nat_le, ◌+◌, ◌-◌, ◌&&◌, codes, if◌then◌else◌}
+use Rattle.std.specs.List.{prefix_len, list_all, flat_map}
 use Rattle.std.specs.Char.{is_ascii_alphabetic}
 use Rattle.ag_small.specs.declared.class.Class.{Class}
 use Rattle.ag_small.specs.declared.class.Class.TheVariants as class
@@ -12,11 +12,15 @@ use Rattle.ag_small.specs.declared.package.ClaimKind.{ClaimKind}
 use Rattle.ag_small.specs.declared.package.ClaimKind.TheVariants.{Assume, Guarantee}
 use Rattle.ag_small.specs.declared.package.Assign.{Assign}
 use Rattle.ag_small.specs.declared.package.Formula.{Formula}
-use Rattle.ag_small.specs.declared.package.Formula.TheVariants.{Truth, Named}
+use Rattle.ag_small.specs.declared.formulas.Operand.{Operand}
+use Rattle.ag_small.specs.declared.formulas.Operator.{Operator}
+use Rattle.ag_small.specs.declared.formulas.Operator.TheVariants as operator
+use Rattle.ag_small.specs.Expressions.{Expression, Truth, Named, Group, Not, And, Or, Implies}
+use Rattle.ag_small.specs.Nodes.{expression_of}
 use Rattle.ag_small.specs.declared.package.ReadFault.{ReadFault}
 use Rattle.ag_small.specs.declared.package.ReadFault.TheVariants.{NotBuilt, OutOfMemory}
 use Rattle.ag_small.specs.Characters.{is_space, is_word_byte, is_label_byte, is_quote, begins, same, is_name}
-use Rattle.ag_small.specs.Grammar.{annex_words_at_head, end_texts}
+use Rattle.ag_small.specs.Grammar.{annex_words_at_head, end_texts, claim_text, assign_text}
 use Rattle.ag_small.specs.Rules.{ports_differ, names_port, all_names, all_follow}
 
 infixl 10 ◌>>=◌
@@ -79,8 +83,116 @@ label_at bytes = do
 abbrev pub either_at : {A : Type 0} → List ℕ → A → List ℕ → A → List ℕ → Option (A × List ℕ)
 either_at text x other y bytes = or_else (fixed_at text bytes >>= λ rest. Some (x, rest)) (fixed_at other bytes >>= λ rest. Some (y, rest))
 
+-- ---- formulas: readers for some levels are made from those for one level less
+
+-- what is found, or else another
+abbrev pub where_found : {A B : Type 0} → Option A → (A → Option B) → Option B → Option B
+where_found (Some x) f other = f x
+where_found None f other = other
+
+-- a formula and the number of its tokens
+abbrev pub Counted : Type 0
+Counted = Expression × ℕ
+
+-- what an operand of the program stands for
+abbrev pub counted : Operand → Counted
+counted o = (expression_of o.node, o.tokens)
+
+-- what a reader of formulas gives: a formula and what follows it
+abbrev pub Reader : Type 0
+Reader = List ℕ → Option (Counted × List ℕ)
+
+-- a number of tokens, where it is at most what the annexes may hold
+unfoldable pub few : ℕ → Option ℕ
+few n = if nat_le n 1000 then Some n else None
+
+-- an operator with its operands
+abbrev pub applied : Operator → Expression → Expression → Expression
+applied operator.And f g = And f g
+applied operator.Or f g = Or f g
+applied operator.Implies f g = Implies f g
+
+-- two operands with an operator's token between them
+unfoldable pub joined_of : Operator → Counted → Counted → Option Counted
+joined_of o f g = few (f.1 + g.1 + 1) >>= λ n. Some (applied o f.0 g.0, n)
+
+-- `not` before an operand
+unfoldable pub negated_of : Counted → Option Counted
+negated_of f = few (f.1 + 1) >>= λ n. Some (Not f.0, n)
+
+-- an operand between two parentheses
+unfoldable pub grouped_of : Counted → Option Counted
+grouped_of f = few (f.1 + 2) >>= λ n. Some (Group f.0, n)
+
+-- "true" | "false" | name
+unfoldable pub atom_at : Reader
+atom_at bytes =
+    where_found (fixed_at (codes "true") bytes) (λ rest. Some ((Truth true, 1), rest))
+    (where_found (fixed_at (codes "false") bytes) (λ rest. Some ((Truth false, 1), rest))
+    (name_at bytes >>= λ n. Some ((Named n.0, 1), n.1)))
+
+-- the readers for some levels; those of chains are passed what the chain has so far
+pub record Readers : Type 0 where
+  pub unary : Reader
+  pub conjunction : Reader
+  pub and_rest : Counted → Reader
+  pub or_rest : Counted → Reader
+  pub expression : Reader
+
+-- "not" unary | "(" expression ")" | atom
+unfoldable pub unary_with : Option Readers → Reader
+unary_with lower bytes =
+    where_found (fixed_at (codes "not") bytes) (λ rest. lower >>= λ readers. readers.unary rest >>= λ x. negated_of x.0 >>= λ f. Some (f, x.1))
+    (where_found (fixed_at (codes "(") bytes) (λ rest. lower >>= λ readers. readers.expression rest >>= λ x. fixed_at (codes ")") x.1 >>= λ end. grouped_of x.0 >>= λ f. Some (f, end))
+    (atom_at bytes))
+
+-- { "and" unary }
+unfoldable pub and_rest_with : Option Readers → Counted → Reader
+and_rest_with lower left bytes =
+    where_found (fixed_at (codes "and") bytes) (λ next. lower >>= λ readers. readers.unary next >>= λ x. joined_of operator.And left x.0 >>= λ f. readers.and_rest f x.1)
+    (Some (left, bytes))
+
+-- unary { "and" unary }
+unfoldable pub conjunction_with : Option Readers → Reader
+conjunction_with lower bytes = unary_with lower bytes >>= λ x. and_rest_with lower x.0 x.1
+
+-- { "or" conjunction }
+unfoldable pub or_rest_with : Option Readers → Counted → Reader
+or_rest_with lower left bytes =
+    where_found (fixed_at (codes "or") bytes) (λ next. lower >>= λ readers. readers.conjunction next >>= λ x. joined_of operator.Or left x.0 >>= λ f. readers.or_rest f x.1)
+    (Some (left, bytes))
+
+-- conjunction { "or" conjunction }
+unfoldable pub disjunction_with : Option Readers → Reader
+disjunction_with lower bytes = conjunction_with lower bytes >>= λ x. or_rest_with lower x.0 x.1
+
+-- disjunction [ "=>" expression ]
+unfoldable pub expression_with : Option Readers → Reader
+expression_with lower bytes =
+    disjunction_with lower bytes >>= λ x. where_found (fixed_at (codes "=>") x.1)
+    (λ next. lower >>= λ readers. readers.expression next >>= λ y. joined_of operator.Implies x.0 y.0 >>= λ f. Some (f, y.1))
+    (Some x)
+
+-- the readers where so many levels are left, by those one level deeper
+abbrev pub readers_above : Option Readers → Readers
+readers_above lower = record {
+  unary = unary_with lower;
+  conjunction = conjunction_with lower;
+  and_rest = and_rest_with lower;
+  or_rest = or_rest_with lower;
+  expression = expression_with lower;
+}
+
+-- the readers one level deeper, where so many levels are left
+unfoldable pub below : ℕ → Option Readers
+below zero = None
+below (suc n) = Some (readers_above (below n))
+
+-- a formula in which no level passes 200, and what follows it
 unfoldable pub formula_at : List ℕ → Option (Formula × List ℕ)
-formula_at bytes = or_else (either_at (codes "true") (Truth true) (codes "false") (Truth false) bytes) (name_at bytes >>= λ n. Some (Named n.0, n.1))
+formula_at bytes = expression_with (below 200) bytes >>= λ x. Some (x.0.0, x.1)
+
+-- ---- ports, claims, assigns
 
 unfoldable pub direction_at : List ℕ → Option (Bool × List ℕ)
 direction_at bytes = either_at (codes "in") false (codes "out") true bytes
@@ -139,11 +251,15 @@ middle_at frame bytes = do
   end ← all_fixed_at annex_words_at_head body.1
   Some (body.0, end)
 
--- the rules, as one test
+-- what is left of a number of tokens where so many are taken
+unfoldable pub left_of : ℕ → ℕ → Option ℕ
+left_of tokens taken = if nat_le taken tokens then Some (tokens - taken) else None
+
+-- the rules beyond the form of formulas, as one test
 abbrev pub is_well_formed : Package → Bool
 is_well_formed p =
     ports_differ p.ports && list_all (λ c. all_names (names_port p.ports) c.formula) p.claims
-    && all_follow p.ports [] p.assigns && nat_le (length p.claims + length p.assigns) 200
+    && all_follow p.ports [] p.assigns && nat_le (length (flat_map claim_text p.claims) + length (flat_map assign_text p.assigns)) 1000
 
 -- a package in bytes of which nothing but white space is left
 unfoldable pub package_at : List ℕ → Option Package

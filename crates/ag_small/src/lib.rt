@@ -1,5 +1,5 @@
 //! The first small grammar: one package with one system type and one implementation, whose formulas
-//! are names and truths.
+//! are built of names and truths by `not`, `and`, `or`, `=>` and parentheses.
 //!
 //! It promises that a package is read exactly where the bytes spell one that keeps the rules, that no
 //! bytes spell two, and that a verdict which is true of an obligation's numbered problem is true of
@@ -13,14 +13,20 @@ ghost use Rattle.ag_small.specs.Reading.{Gives, read_of};
 
 mod carried;
 mod class;
+mod formula_walk;
+mod formulas;
 mod numbered;
 mod package;
+mod place;
 mod reading;
 mod rules;
+mod token;
+mod walk;
 
 pub use carried::{obligations_are_fit, runs_stand, verdicts_carry_over};
 pub use numbered::obligations;
-pub use package::{Assign, Claim, ClaimKind, Formula, Package, Port, ReadFault};
+pub use package::{Assign, Claim, ClaimKind, Formula, Node, Package, Port, ReadFault};
+pub use place::place_of_refusal;
 use std::alloc::Global;
 
 /// Reads a package. Its names stand as the bytes have them; white space is TAB, LF, CR and space, and

@@ -1,11 +1,12 @@
 //! The numbered problem of each obligation.
-ghost use Rattle.std.specs.Prelude.{◌≡◌, ◌+◌, ◌<◌, ◌≤◌, ℕ, map, length, IfOk, IfSome, MatchOption, All};
+ghost use Rattle.std.specs.Prelude.{◌≡◌, ◌+◌, ◌<◌, ◌≤◌, ◌++◌, ◌∷◌, [], ℕ, map, length, IfOk, OnOk, IfSome, MatchOption, All};
 ghost use Rattle.ag_small.specs.Rules.{IsWellFormed};
 ghost use Rattle.ag_small.specs.Named.{is_of};
-ghost use Rattle.ag_small.specs.Numbered.{stream_of, part_of, formulas, equations_from, numbers_from, draft_of, layer_name, key_of, guarantees_from, obligations_of};
+ghost use Rattle.ag_small.specs.Nodes.{expression_of};
+ghost use Rattle.ag_small.specs.Numbered.{stream_of, part_count, own_part, parts_of, formulas, parts_in, all_parts, claim_parts, equations_from, numbers_from, draft_of, layer_name, key_of, guarantees_from, obligations_of};
 
 use crate::class::same;
-use crate::package::{Assign, Claim, ClaimKind, Formula, Package, Port};
+use crate::package::{Assign, Claim, ClaimKind, Node, Package, Port};
 use ag_base::{List, OutOfMemory, Text};
 use ag_stream::{Equation, Part, Problem, ProblemDraft, ProblemFault};
 use ag_verdict::{Key, KeyKind, Obligation};
@@ -23,48 +24,120 @@ fn stream_of(ports: &[Port], name: &[u8]) -> u16
     ports.len() as u16
 }
 
-fn part_of(ports: &[Port], formula: &Formula) -> Part
-    requires { length ports.now ≤ 12 }
-    ensures { result ≡ part_of ports.now formula.now }
+// Puts a formula's parts behind the others, and answers the number of its own part.
+fn push_parts(parts: &mut List<Part>, ports: &[Port], node: &Node) -> Result<u16, OutOfMemory>
+    requires ports { length ports.now ≤ 12 }
+    requires few { length parts.old + part_count (expression_of node.now) ≤ 2000 }
+    ensures parts { OnOk result (parts.new ≡ parts.old ++ parts_of ports.now (length parts.old) (expression_of node.now)) }
+    ensures own { IfOk result (λ n. n ≡ own_part (length parts.old) (expression_of node.now)) }
+    ensures count { OnOk result (length parts.new ≡ length parts.old + part_count (expression_of node.now)) }
 {
-    match formula {
-        Formula::Truth(holds) => Part::Truth(*holds),
-        Formula::Named(name) => Part::Flag {
-            stream: stream_of(ports, name.as_bytes()),
-            before: false,
-        },
+    match node {
+        Node::Truth(holds) => push_part(parts, Part::Truth(*holds)),
+        Node::Named(name) => {
+            let stream = stream_of(ports, name.as_bytes());
+            push_part(
+                parts,
+                Part::Flag {
+                    stream,
+                    before: false,
+                },
+            )
+        }
+        Node::Group(f) => push_parts(parts, ports, f),
+        Node::Not(f) => {
+            let own = push_parts(parts, ports, f)?;
+            push_part(parts, Part::Not(own))
+        }
+        Node::And(f, g) => {
+            let left = push_parts(parts, ports, f)?;
+            let right = push_parts(parts, ports, g)?;
+            push_part(parts, Part::And(left, right))
+        }
+        Node::Or(f, g) => {
+            let left = push_parts(parts, ports, f)?;
+            let right = push_parts(parts, ports, g)?;
+            push_part(parts, Part::Or(left, right))
+        }
+        Node::Implies(f, g) => {
+            let left = push_parts(parts, ports, f)?;
+            let right = push_parts(parts, ports, g)?;
+            let not_left = push_part(parts, Part::Not(left))?;
+            push_part(parts, Part::Or(not_left, right))
+        }
+    }
+}
+
+// Puts one part behind the others, and answers its number.
+fn push_part(parts: &mut List<Part>, part: Part) -> Result<u16, OutOfMemory>
+    requires { length parts.old < 2000 }
+    ensures parts { OnOk result (parts.new ≡ parts.old ++ part ∷ []) }
+    ensures own { IfOk result (λ n. n ≡ length parts.old) }
+    ensures count { OnOk result (length parts.new ≡ length parts.old + 1) }
+{
+    let own = parts.len() as u16;
+    parts.push(part)?;
+    Ok(own)
+}
+
+// How many parts a formula has.
+fn part_count(node: &Node) -> u16
+    requires { part_count (expression_of node.now) ≤ 2000 }
+    ensures { result ≡ part_count (expression_of node.now) }
+{
+    match node {
+        Node::Truth(_) | Node::Named(_) => 1,
+        Node::Group(f) => part_count(f),
+        Node::Not(f) => part_count(f) + 1,
+        Node::And(f, g) | Node::Or(f, g) => part_count(f) + part_count(g) + 1,
+        Node::Implies(f, g) => part_count(f) + part_count(g) + 2,
     }
 }
 
 fn parts(alloc: Global, model: &Package) -> Result<List<Part>, OutOfMemory>
-    requires { length model.now.ports ≤ 12 }
-    ensures { IfOk result (λ l. l ≡ map (part_of model.now.ports) (formulas model.now)) }
+    requires ports { length model.now.ports ≤ 12 }
+    requires few { parts_in (formulas model.now) ≤ 2000 }
+    ensures { IfOk result (λ l. l ≡ all_parts model.now.ports 0 (formulas model.now)) }
 {
     let ports = model.ports.as_slice();
     let mut parts = List::new(alloc);
     for claim in model.claims.as_slice() {
-        parts.push(part_of(ports, &claim.formula))?;
+        push_parts(&mut parts, ports, claim.formula.node())?;
     }
     for assign in model.assigns.as_slice() {
-        parts.push(part_of(ports, &assign.value))?;
+        push_parts(&mut parts, ports, assign.value.node())?;
     }
     Ok(parts)
 }
 
 fn equations(alloc: Global, model: &Package) -> Result<List<Equation>, OutOfMemory>
     requires ports { length model.now.ports ≤ 12 }
-    requires clauses { length model.now.claims + length model.now.assigns ≤ 200 }
-    ensures { IfOk result (λ l. l ≡ equations_from model.now.ports (length model.now.claims) model.now.assigns) }
+    requires few { parts_in (formulas model.now) ≤ 2000 }
+    ensures { IfOk result (λ l. l ≡ equations_from model.now.ports (claim_parts model.now.claims) model.now.assigns) }
 {
     let ports = model.ports.as_slice();
-    let claims = model.claims.len();
+    let mut first = claim_parts(model.claims.as_slice());
     let mut equations = List::new(alloc);
-    for (i, assign) in model.assigns.as_slice().iter().enumerate() {
+    for assign in model.assigns.as_slice() {
         let stream = stream_of(ports, assign.name.as_bytes());
-        let part = (claims + i) as u16;
+        let count = part_count(assign.value.node());
+        let part = first + count - 1;
         equations.push(Equation::Flag { stream, part })?;
+        first += count;
     }
     Ok(equations)
+}
+
+// How many parts the claims have.
+fn claim_parts(claims: &[Claim]) -> u16
+    requires { claim_parts claims.now ≤ 2000 }
+    ensures { result ≡ claim_parts claims.now }
+{
+    let mut count = 0;
+    for claim in claims {
+        count += part_count(claim.formula.node());
+    }
+    count
 }
 
 fn is_of(kind: ClaimKind, other: ClaimKind) -> bool
@@ -78,16 +151,17 @@ fn is_of(kind: ClaimKind, other: ClaimKind) -> bool
 
 // The numbers of the claims of a kind.
 fn numbers(alloc: Global, kind: ClaimKind, claims: &[Claim]) -> Result<List<u16>, OutOfMemory>
-    requires { length claims.now ≤ 200 }
+    requires few { claim_parts claims.now ≤ 2000 }
     ensures value { IfOk result (λ l. l ≡ numbers_from kind 0 claims.now) }
-    ensures below { IfOk result (λ l. All (λ n. n < length claims.now) l) }
-    ensures few { IfOk result (λ l. length l ≤ 200) }
 {
+    let mut first = 0;
     let mut numbers = List::new(alloc);
-    for (i, claim) in claims.iter().enumerate() {
+    for claim in claims {
+        let count = part_count(claim.formula.node());
         if is_of(kind, claim.kind) {
-            numbers.push(i as u16)?;
+            numbers.push(first + count - 1)?;
         }
+        first += count;
     }
     Ok(numbers)
 }
@@ -99,7 +173,7 @@ fn draft(
     sought: u32,
 ) -> Result<ProblemDraft, OutOfMemory>
     requires ports { length model.now.ports ≤ 12 }
-    requires clauses { length model.now.claims + length model.now.assigns ≤ 200 }
+    requires few { parts_in (formulas model.now) ≤ 2000 }
     ensures { IfOk result (λ d. d ≡ draft_of model.now claim sought) }
 {
     Ok(ProblemDraft {
@@ -132,7 +206,7 @@ fn problem(
     sought: u32,
 ) -> Result<Problem, OutOfMemory>
     requires kept { IsWellFormed model.now }
-    requires claim { IfSome claim (λ part. part < length model.now.claims) }
+    requires claim { IfSome claim (λ part. part < claim_parts model.now.claims) }
     requires sought { MatchOption claim ((1 ≤ sought) × (sought ≤ 30)) (λ _. sought ≡ 0) }
     ensures { IfOk result (λ q. q ≡ draft_of model.now claim sought) }
 {
@@ -153,7 +227,7 @@ fn obligation(
     sought: u32,
 ) -> Result<Obligation, OutOfMemory>
     requires kept { IsWellFormed model.now }
-    requires claim { IfSome claim (λ part. part < length model.now.claims) }
+    requires claim { IfSome claim (λ part. part < claim_parts model.now.claims) }
     requires sought { MatchOption claim ((1 ≤ sought) × (sought ≤ 30)) (λ _. sought ≡ 0) }
     ensures { IfOk result (λ o. o ≡ record { key = key_of model.now kind number; layer = 0; problem = draft_of model.now claim sought }) }
 {
@@ -178,7 +252,7 @@ fn guarantees(
     numbers: &[u16],
 ) -> Result<List<Obligation>, OutOfMemory>
     requires kept { IsWellFormed model.now }
-    requires below { All (λ n. n < length model.now.claims) numbers.now }
+    requires below { All (λ n. n < claim_parts model.now.claims) numbers.now }
     requires few { length numbers.now ≤ 200 }
     ensures { IfOk result (λ l. l ≡ guarantees_from model.now 1 numbers.now) }
 {

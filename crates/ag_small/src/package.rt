@@ -1,8 +1,10 @@
 //! A package of the small grammar.
 ghost use Rattle.std.specs.Prelude.{◌≡◌};
+ghost use Rattle.ag_small.specs.Nodes.{expression_of};
 ghost use Rattle.ag_small.specs.declared.package.ReadFault.TheVariants as fault;
 
 use ag_base::{List, OutOfMemory, Text};
+use std::marker::Model;
 
 /// A package with one system type and one implementation of it. Names stand as they are declared.
 #[derive(Drop)]
@@ -48,12 +50,50 @@ pub struct Assign {
     pub value: Formula,
 }
 
-/// A Boolean expression.
+/// A Boolean expression as it is written, with its parentheses.
 #[derive(Drop)]
-pub enum Formula {
+pub struct Formula {
+    node: Node,
+}
+
+/// A formula's outermost form.
+#[derive(Drop)]
+pub enum Node {
     Truth(bool),
     /// A port's name as it is written here.
     Named(Text),
+    /// In parentheses.
+    Group(Box<Node>),
+    Not(Box<Node>),
+    And(Box<Node>, Box<Node>),
+    Or(Box<Node>, Box<Node>),
+    Implies(Box<Node>, Box<Node>),
+}
+
+impl Model for Formula {
+    ghost use Rattle.ag_small.specs.Expressions.{Expression, expression_code};
+
+    ghost Value = { Expression };
+
+    ghost coded = { expression_code };
+
+    ghost use Rattle.ag_small.specs.Nodes.{expression_of};
+
+    ghost view = { λ f. expression_of f.node };
+}
+
+impl Formula {
+    pub fn new(node: Node) -> Formula
+        ensures { result ≡ expression_of node }
+    {
+        Formula { node }
+    }
+
+    pub fn node(&self) -> &Node
+        ensures { expression_of result.now ≡ self.now }
+    {
+        &self.node
+    }
 }
 
 /// Why no package was read.

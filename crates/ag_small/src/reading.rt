@@ -4,10 +4,11 @@ ghost use Rattle.std.specs.List.{list_any, list_all};
 ghost use Rattle.std.specs.Str.{IsAscii};
 ghost use Rattle.ag_small.specs.Characters.{same, is_reserved, is_name, aadl_words, annex_words};
 ghost use Rattle.ag_small.specs.Grammar.{end_texts};
-ghost use Rattle.ag_small.specs.Reading.{Gives, fixed_at, all_fixed_at, name_at, label_at, formula_at, direction_at, kind_at, port_at, claim_at, assign_at, head_at, middle_at, items_at, package_at};
+ghost use Rattle.ag_small.specs.Reading.{Gives, fixed_at, all_fixed_at, name_at, label_at, direction_at, kind_at, port_at, claim_at, assign_at, head_at, middle_at, items_at, package_at};
 
 use crate::class::{Class, after_space, same};
-use crate::package::{Assign, Claim, ClaimKind, Formula, Package, Port, ReadFault};
+use crate::formulas::formula;
+use crate::package::{Assign, Claim, ClaimKind, Package, Port, ReadFault};
 use ag_base::{List, OutOfMemory, Text};
 use std::alloc::Global;
 
@@ -23,7 +24,7 @@ fn text_of(alloc: Global, bytes: &[u8]) -> Result<Text, OutOfMemory>
 
 // What follows a fixed text, in any case, where it stands at the front.
 #[tactic(auto, unfolding(crate::specs::Reading::fixed_at))]
-fn after<'a>(text: &str, bytes: &'a [u8]) -> Option<&'a [u8]>
+pub fn after<'a>(text: &str, bytes: &'a [u8]) -> Option<&'a [u8]>
     ensures { option_map (λ r. r.now) result ≡ fixed_at text.now bytes.now }
 {
     let here = after_space(bytes);
@@ -46,7 +47,7 @@ fn stands(text: &str, bytes: &[u8]) -> bool
 }
 
 // What follows a fixed text that has to stand at the front.
-fn expect<'a>(text: &str, bytes: &'a [u8]) -> Result<&'a [u8], ReadFault>
+pub fn expect<'a>(text: &str, bytes: &'a [u8]) -> Result<&'a [u8], ReadFault>
     ensures { Gives (λ r. r.now) result (fixed_at text.now bytes.now) }
 {
     match after(text, bytes) {
@@ -186,7 +187,7 @@ fn is_annex_word(word: &[u8]) -> bool
 }
 
 #[tactic(auto, unfolding(crate::specs::Characters::is_name))]
-fn is_name(word: &[u8]) -> bool
+pub fn is_name(word: &[u8]) -> bool
     ensures { result ≡ is_name word.now }
 {
     Class::Letter.begins(word)
@@ -196,7 +197,7 @@ fn is_name(word: &[u8]) -> bool
 }
 
 #[tactic(auto, unfolding(crate::specs::Reading::name_at))]
-fn name(alloc: Global, bytes: &[u8]) -> Result<(Text, &[u8]), ReadFault>
+pub fn name(alloc: Global, bytes: &[u8]) -> Result<(Text, &[u8]), ReadFault>
     ensures { Gives (λ x. (x.0, x.1.now)) result (name_at bytes.now) }
 {
     let here = after_space(bytes);
@@ -217,20 +218,6 @@ fn label(alloc: Global, bytes: &[u8]) -> Result<(Text, &[u8]), ReadFault>
         return Err(ReadFault::NotBuilt);
     }
     Ok((text_of(alloc, text)?, &rest[1..]))
-}
-
-#[tactic(auto, unfolding(crate::specs::Reading::formula_at))]
-fn formula(alloc: Global, bytes: &[u8]) -> Result<(Formula, &[u8]), ReadFault>
-    ensures { Gives (λ x. (x.0, x.1.now)) result (formula_at bytes.now) }
-{
-    if let Some(rest) = after("true", bytes) {
-        return Ok((Formula::Truth(true), rest));
-    }
-    if let Some(rest) = after("false", bytes) {
-        return Ok((Formula::Truth(false), rest));
-    }
-    let (name, rest) = name(alloc, bytes)?;
-    Ok((Formula::Named(name), rest))
 }
 
 // Whether a port is an output.

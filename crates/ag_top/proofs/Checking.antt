@@ -4,7 +4,7 @@ use Rattle.std.specs.Prelude.{All, IfSome}
 use Rattle.std.specs.List.{AllByRecursion}
 use Rattle.std.proofs.lemmas.List.{length-map}
 use Rattle.std.proofs.Math.ListN.{get_or-map}
-use Rattle.std.proofs.lemmas.List.Elements.{All-from_recursion, All-map, All-weaker}
+use Rattle.std.proofs.lemmas.List.Elements.{All-from_recursion, All-nil, All-map, All-weaker}
 use Rattle.ag_base.specs.declared.status.Status.{Status}
 use Rattle.ag_base.specs.declared.status.Status.TheVariants as statuses
 use Rattle.ag_stream.specs.declared.problem.ProblemDraft.{ProblemDraft}
@@ -193,20 +193,20 @@ check_answers carry p w list n board end before now status e h r k keys decided 
     }
 
 -- a check that was cut short
-pub check_cut : (p : Package) (list : List (Key × ProblemDraft)) (n : ℕ) (board end : Kept) (before now : Option (List ℕ)) → list ≡ listed_of p
+pub check_cut : VerdictsCarryOver → (p : Package) → IsWellFormed p → (list : List (Key × ProblemDraft)) (n : ℕ) (board end : Kept) (before now : Option (List ℕ)) → list ≡ listed_of p
     → Enters record { state = start; history = [] } board (publish list) (published (accepted n))
     → (now ≡ before) ⊎ SaysThen (texts.published 1 n 0 0) (StopsIn p 1 (Settle ∷ Report ∷ Close ∷ []) board end) before now
     → IsKept end → IsCheckCut p end.history before now
-check_cut p list n board end before now e h (inl same) k = record {
+check_cut carry p w list n board end before now e h (inl same) k = record {
   said = [];
-  cut = record { legal = k.legal; done = []; ahead = check; all = refl; served = []; begun = end.history; whole = refl; commands = (refl, refl) };
+  cut = record { legal = k.legal; done = []; ahead = check; all = refl; served = []; begun = end.history; whole = refl; commands = (refl, refl); truly = All-nil (IsTruly p) };
   written = subst (λ (o : Option (List ℕ)). Grows before o []) (sym same) (grow_none before);
 }
-check_cut p list n board end before now e h (inr r) k =
+check_cut carry p w list n board end before now e h (inr r) k =
     let some = some_served p 0 check record { state = start; history = [] } end before now (inr (board, r.between, published_first p list n board before r.between e h r.written, r.rest)) in
     record {
       said = some.said;
-      cut = record { legal = k.legal; done = some.done; ahead = some.ahead; all = some.all; served = some.entries; begun = some.begun; whole = some.history; commands = some.commands };
+      cut = record { legal = k.legal; done = some.done; ahead = some.ahead; all = some.all; served = some.entries; begun = some.begun; whole = some.history; commands = some.commands; truly = All-from_recursion (IsTruly p) some.said (all_truly carry p w 0 some.done some.entries some.said some.commands) };
       written = some.written;
     }
 

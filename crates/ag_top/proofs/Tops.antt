@@ -40,7 +40,7 @@ refusal_of words left text history before now w r few h = record {
   command = w;
   text = text;
   read = r;
-  cause = inr (few, h.none, h.written);
+  cause = inr (few, h.none, (h.place, h.inside, h.written));
   empty = h.empty;
 }
 

@@ -1,10 +1,13 @@
 -- What a run of the program promises, from the words and the bytes that were read to the bytes that were written.
 use Rattle.std.specs.Prelude.{◌≡◌, ◌⊎◌, ◌<◌, ◌≤◌, ◌++◌, ◌∷◌, [], ℕ, List, length, take, All, Option, IfSome, codes}
 use Rattle.std.specs.List.{flat_map}
+use Rattle.ag_base.specs.declared.place.Place.{Place}
 use Rattle.ag_base.specs.declared.status.Status.{Status}
 use Rattle.ag_small.specs.declared.package.Package.{Package}
 use Rattle.ag_small.specs.Reads.{Reads}
 use Rattle.ag_small.specs.Named.{IsTrueOfNamed}
+use Rattle.ag_small.specs.Places.{IsPlaceIn}
+use Rattle.ag_report.specs.Texts.{refused}
 use Rattle.ag_top.specs.Entries.{PlainEntry}
 use Rattle.ag_top.specs.Machine.{start, state_after, IsLegal, undecided, tally}
 use Rattle.ag_top.specs.Store.{listed}
@@ -20,9 +23,6 @@ usage_text = codes "usage: agreec check -\n"
 
 abbrev pub too_long_text : List ℕ
 too_long_text = codes "refused - TooLong\n"
-
-abbrev pub not_built_text : List ℕ
-not_built_text = codes "refused -:1:1 NotBuilt\n"
 
 -- the text that was read is all that the source has, where it tells
 abbrev pub IsTextOf : Option (List ℕ) → List ℕ → Type 0
@@ -49,7 +49,7 @@ pub record IsChecked (p : Package) (history : List PlainEntry) (said : List Said
   pub decided : undecided (state_after start history) ≡ 0
   pub by_verdicts : status ≡ status_by (tally (state_after start history))
 
--- a check that was cut short: the first commands were served; of the entries behind theirs it is said only that the history is legal
+-- a check that was cut short: the first commands were served, and what is told of them is true; of the entries behind theirs it is said only that the history is legal
 pub record IsCutShort (p : Package) (history : List PlainEntry) (said : List Said) : Type 0 where
   pub legal : IsLegal history
   pub done : List Command
@@ -59,6 +59,7 @@ pub record IsCutShort (p : Package) (history : List PlainEntry) (said : List Sai
   pub begun : List PlainEntry
   pub whole : history ≡ served ++ begun
   pub commands : Serves (listed_of p) 0 done served said
+  pub truly : All (IsTruly p) said
 
 -- the check of a package was answered, and what is said of it was written
 pub record IsCheckAnswer (p : Package) (history : List PlainEntry) (status : Status) (before now : Option (List ℕ)) : Type 0 where
@@ -103,13 +104,13 @@ pub record IsUsage (words : List (List ℕ)) (history : List PlainEntry) (before
   pub written : Grows before now usage_text
   pub empty : history ≡ []
 
--- what was read is too long, or no package of the grammar, and that is written
+-- what was read is too long, or no package of the grammar, and that is written, with a place in the text
 pub record IsRefusal (words : List (List ℕ)) (left : Option (List ℕ)) (history : List PlainEntry) (before now : Option (List ℕ)) : Type 0 where
   pub command : IsCheck words
   pub text : List ℕ
   pub read : IsTextOf left text
   pub cause : ((4194304 < length text) × Grows before now too_long_text)
-      ⊎ ((length text ≤ 4194304) × ((p : Package) → Reads text p → ⊥) × Grows before now not_built_text)
+      ⊎ ((length text ≤ 4194304) × ((p : Package) → Reads text p → ⊥) × ((place : Place) × IsPlaceIn text place × Grows before now (refused place)))
   pub empty : history ≡ []
 
 -- what was read is a package, whose check was answered
@@ -144,17 +145,19 @@ pub record IsTextCut (text : List ℕ) (history : List PlainEntry) (before now :
   pub reads : Reads text declared
   pub cut : IsCheckCut declared history before now
 
--- a text is no package of the grammar, and that was written
+-- a text is no package of the grammar, and that was written, with a place in the text
 pub record IsTextRefused (text : List ℕ) (history : List PlainEntry) (before now : Option (List ℕ)) : Type 0 where
   pub none : (p : Package) → Reads text p → ⊥
-  pub written : Grows before now not_built_text
+  pub place : Place
+  pub inside : IsPlaceIn text place
+  pub written : Grows before now (refused place)
   pub empty : history ≡ []
 
 -- of what a text gives only the first bytes were written: of its check, or of its refusal
 abbrev pub IsTextBroken : List ℕ → List PlainEntry → Option (List ℕ) → Option (List ℕ) → Type 0
 IsTextBroken text history before now =
     ((p : Package) × Reads text p × IsCheckBroken p history before now)
-    ⊎ (((p : Package) → Reads text p → ⊥) × Partly not_built_text before now × (history ≡ []))
+    ⊎ (((p : Package) → Reads text p → ⊥) × ((place : Place) × IsPlaceIn text place × Partly (refused place) before now) × (history ≡ []))
 
 -- of what a check of the source gives only the first bytes were written
 pub record IsReadBroken (words : List (List ℕ)) (left : Option (List ℕ)) (history : List PlainEntry) (before now : Option (List ℕ)) : Type 0 where

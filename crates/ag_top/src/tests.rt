@@ -43,7 +43,7 @@ end report
 closed 1: 1 proved, 0 refuted, 0 consistent, 1 inconsistent, 0 unknown
 ";
 
-/// A run on these words and this text, of which two bytes are read at a time.
+/// A run on these words and this text, of which one byte is read at a time.
 fn expect<R: Threads + Wait + Abort + Sync>(
     rt: &R,
     alloc: Global,
@@ -61,7 +61,7 @@ fn expect<R: Threads + Wait + Abort + Sync>(
     reads.push(failing.0)?;
     writes.push(failing.1)?;
     let bytes = List::from_vec(Vec::from_slice(alloc, text.as_bytes())?);
-    let mut source = MemSource::make(bytes, 2, reads);
+    let mut source = MemSource::make(bytes, 1, reads);
     let mut sink = MemSink::make(alloc, room, writes)?;
     let mut folder = MemFolder::make(alloc, List::new(alloc), List::new(alloc));
     let done = agree(rt, alloc, &given, &mut source, &mut sink, &mut folder);
@@ -91,12 +91,84 @@ fn checks_what_it_reads(rt: HostRuntime) -> Result<(), Fail> {
         (
             "S.i;",
             "S.j;",
-            "refused -:1:1 NotBuilt\n",
+            "refused -:17:7 NotBuilt\n",
             Status::ModelRefused,
         ),
     ];
     for (old, new, output, status) in &rows {
         let (front, rest) = PACKAGE.split_once(*old).ok_or("the package has the text")?;
+        let text = format!(in rt.alloc(); "{front}{new}{rest}")?;
+        let entries = if *status == Status::ModelRefused {
+            0
+        } else {
+            9
+        };
+        expect(
+            &rt,
+            rt.alloc(),
+            &["check", "-"],
+            text.as_str(),
+            (0, 0),
+            4096,
+            (*output, *status, entries),
+        )?;
+    }
+    Ok(())
+}
+
+const MODEL: &str = "package P
+public
+with Base_Types;
+system S
+features
+a : in data port Base_Types::Boolean; b : in data port Base_Types::Boolean; o : out data port Base_Types::Boolean;
+annex agree {**
+guarantee \"g\" : o => a;
+**};
+end S;
+system implementation S.i
+annex agree {**
+assign o = a and b;
+**};
+end S.i;
+end P;
+";
+
+const SEPARATED: &str = "revision 1: 2 obligations, 0 carried, 0 cancelled
+settled 1
+report 1
+P::S.i guarantee 1 \"g\": refuted at 1
+  instant     1
+  a       false
+  b        true
+  o        true
+P::S.i consistent: consistent 1
+end report
+closed 1: 0 proved, 1 refuted, 1 consistent, 0 inconsistent, 0 unknown
+";
+
+#[test]
+fn checks_formulas(rt: HostRuntime) -> Result<(), Fail> {
+    let ports =
+        "a : in data port Base_Types::Boolean; b : in data port Base_Types::Boolean; o : out data port Base_Types::Boolean;";
+    let rows = [
+        ("a and b", "a and b", PROVED, Status::AllGood),
+        ("a and b", "a or b", SEPARATED, Status::Refuted),
+        (
+            "end P;\n",
+            "",
+            "refused -:16:1 NotBuilt\n",
+            Status::ModelRefused,
+        ),
+        (
+            ports,
+            "x : in data port Base_Types::Integer;",
+            "refused -:6:30 NotBuilt\n",
+            Status::ModelRefused,
+        ),
+    ];
+    for (old, new, output, status) in &rows {
+        let (front, rest) = MODEL.split_once(*old).ok_or("the model has the text")?;
         let text = format!(in rt.alloc(); "{front}{new}{rest}")?;
         let entries = if *status == Status::ModelRefused {
             0
@@ -156,6 +228,43 @@ fn ends_where_the_outside_fails(rt: HostRuntime) -> Result<(), Fail> {
         50,
         (first, Status::WriteFault, 6),
     )
+}
+
+#[test]
+fn each_read_may_fail(rt: HostRuntime) -> Result<(), Fail> {
+    let check = ["check", "-"];
+    let last = u32::try_from(MODEL.len()).unwrap_or(0).saturating_add(1);
+    for n in 1..=last {
+        let wanted = ("", Status::ReadFault, 0);
+        expect(&rt, rt.alloc(), &check, MODEL, (n, 0), 4096, wanted)?;
+    }
+    let wanted = (PROVED, Status::AllGood, 9);
+    expect(
+        &rt,
+        rt.alloc(),
+        &check,
+        MODEL,
+        (last.saturating_add(1), 5),
+        4096,
+        wanted,
+    )
+}
+
+#[test]
+fn each_write_may_fail(rt: HostRuntime) -> Result<(), Fail> {
+    let check = ["check", "-"];
+    let rows = [
+        (1, "revision", 1),
+        (2, "settled", 6),
+        (3, "report", 7),
+        (4, "closed", 9),
+    ];
+    for (n, reply, entries) in &rows {
+        let (before, _) = PROVED.split_once(*reply).ok_or("there is such a reply")?;
+        let wanted = (before, Status::WriteFault, *entries);
+        expect(&rt, rt.alloc(), &check, MODEL, (0, *n), 4096, wanted)?;
+    }
+    Ok(())
 }
 
 #[test]

@@ -1,5 +1,10 @@
 //! The top call.
-ghost use Rattle.std.specs.Prelude.{◌≡◌, ◌≢◌, ◌↔◌, ◌⊎◌, ◌≤◌, [], IsTrue, length};
+ghost use Rattle.std.specs.Prelude.{◌≡◌, ◌≢◌, ◌↔◌, ◌⊎◌, ◌≤◌, [], IfOk, IsTrue, length};
+ghost use Rattle.ag_base.specs.declared.place.Place.{Place};
+ghost use Rattle.ag_small.specs.declared.package.Package.{Package};
+ghost use Rattle.ag_small.specs.Reads.{Reads};
+ghost use Rattle.ag_small.specs.Places.{IsPlaceIn};
+ghost use Rattle.ag_report.specs.Texts.{refused};
 ghost use Rattle.ag_base.specs.Outside.{Rose};
 ghost use Rattle.ag_base.specs.declared.status.Status.TheVariants as statuses;
 ghost use Rattle.ag_top.specs.Commands.{Grows};
@@ -9,8 +14,9 @@ ghost use Rattle.ag_top.specs.Outcome.{IsCheck, IsUsage, IsRefusal, IsAnswer, Is
 use crate::check::{Done, check, ended};
 use crate::read::{TextFault, read_text};
 use crate::say::say;
-use ag_base::{Folder, Sink, Source, Status, Text};
-use ag_small::{ReadFault, read};
+use ag_base::{Bytes, Failed, Folder, OutOfMemory, Sink, Source, Status, Text};
+use ag_report::refused_line;
+use ag_small::{ReadFault, place_of_refusal, read};
 use std::alloc::Global;
 use std::sync::Wait;
 use std::thread::Threads;
@@ -20,9 +26,6 @@ const USAGE: &str = "usage: agreec check -\n";
 
 /// What is written of a text of more than 4,194,304 bytes.
 const TOO_LONG: &str = "refused - TooLong\n";
-
-/// What is written of a text that isn't one of the grammar.
-const NOT_BUILT: &str = "refused -:1:1 NotBuilt\n";
 
 /// Whether the words are `check -`.
 fn is_check(words: &[Text]) -> bool
@@ -48,6 +51,35 @@ fn refuse<K: Sink>(alloc: Global, sink: &mut K, text: &str, status: Status) -> D
     }
 }
 
+/// The line that tells where a text departs from the grammar.
+fn departure(alloc: Global, text: &[u8]) -> Result<Bytes, OutOfMemory>
+    requires { length text.now ≤ 4194304 }
+    ensures { IfOk result (λ line. (place : Place) × IsPlaceIn text.now place × (line ≡ refused place)) }
+{
+    let place = place_of_refusal(alloc, text)?;
+    refused_line(alloc, place)
+}
+
+/// Refuses a text that spells no package.
+fn refuse_text<K: Sink>(alloc: Global, text: &[u8], sink: &mut K) -> Done
+    requires few { length text.now ≤ 4194304 }
+    requires none { (p : Package) → Reads text.now p → ⊥ }
+    ensures refused { result.status ≡ statuses.ModelRefused → IsTextRefused text.now result.history (K.written sink.old) (K.written sink.new) }
+    ensures memory { result.status ≡ statuses.OutOfMemory → IsNothing result.history (K.written sink.old) (K.written sink.new) }
+    ensures broken { result.status ≡ statuses.WriteFault → IsTextBroken text.now result.history (K.written sink.old) (K.written sink.new) }
+    ensures write { result.status ≡ statuses.WriteFault → Rose (K.faults sink.old) (K.faults sink.new) }
+    ensures only { IsEndOfText result.status }
+    ensures unanswered { EndsByVerdicts result.status → ⊥ }
+{
+    let Ok(line) = departure(alloc, text) else {
+        return ended(alloc, Status::OutOfMemory);
+    };
+    match say(sink, line.as_slice()) {
+        Ok(()) => ended(alloc, Status::ModelRefused),
+        Err(Failed) => ended(alloc, Status::WriteFault),
+    }
+}
+
 /// Checks the package that a text spells, if it spells one.
 fn check_text<K: Sink>(alloc: Global, text: &[u8], sink: &mut K) -> Done
     requires { length text.now ≤ 4194304 }
@@ -60,7 +92,7 @@ fn check_text<K: Sink>(alloc: Global, text: &[u8], sink: &mut K) -> Done
 {
     match read(alloc, text) {
         Err(ReadFault::OutOfMemory) => ended(alloc, Status::OutOfMemory),
-        Err(ReadFault::NotBuilt) => refuse(alloc, sink, NOT_BUILT, Status::ModelRefused),
+        Err(ReadFault::NotBuilt) => refuse_text(alloc, text, sink),
         Ok(package) => check(alloc, &package, sink),
     }
 }

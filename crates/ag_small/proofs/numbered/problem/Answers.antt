@@ -1,10 +1,10 @@
 use Rattle.ag_stream.specs.Dependence.{HasNoCycle}
-use Rattle.ag_small.proofs.Laws.{few_clauses}
+use Rattle.ag_small.proofs.Numbering.{few_parts}
 use Rattle.ag_small.proofs.Formed.{formed, plain, acyclic}
 use Rattle.ag_small.proofs.numbered.problem.Goals as goal
 
-pub draft-requires-clause-clauses : goal.draft-requires-clause-clauses
-draft-requires-clause-clauses c = few_clauses c.args.model.now c.requires.kept
+pub draft-requires-clause-few : goal.draft-requires-clause-few
+draft-requires-clause-few c = few_parts c.args.model.now c.requires.kept
 
 pub make-requires-clause-formed : goal.make-requires-clause-formed
 make-requires-clause-formed c = rw c.in_ok-draft.ensures (formed c.args.model.now c.args.claim c.args.sought c.requires.kept c.requires.claim c.requires.sought)

@@ -24,7 +24,7 @@ returns-clause-checked g c = λ v.
 
 pub returns-clause-memory : goal.returns-clause-memory
 returns-clause-memory g c = λ m.
-    inr (rw c.into_history.ensures (check_cut c.args.package.now (plain_list c.in-Ok.list) c.len-count.result c.in-Ok-publish.board c.accepted_first-end.new.board _ _ c.in-Ok.ensures (published_count g c)
+    inr (rw c.into_history.ensures (check_cut c.verdicts_carry_over.ensures c.args.package.now c.requires (plain_list c.in-Ok.list) c.len-count.result c.in-Ok-publish.board c.accepted_first-end.new.board _ _ c.in-Ok.ensures (published_count g c)
     (c.accepted_first-end.ensures.memory (memory_stop c.accepted_first-end.result c.status_of.result c.status_of.ensures m)) c.know.ensures))
 
 pub returns-clause-broken : goal.returns-clause-broken
