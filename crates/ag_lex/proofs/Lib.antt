@@ -1,0 +1,12 @@
+pub mod Fronts
+pub mod Closing
+pub mod KindsApart
+pub mod Longest
+pub mod OnePiece
+pub mod Founds
+pub mod Placing
+pub mod Reaching
+pub mod Steps
+pub mod Whole
+pub mod Annexes
+pub mod Either

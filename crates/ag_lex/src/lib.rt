@@ -1,0 +1,97 @@
+//! The tokens of AADL files and of the annexes in them.
+//!
+//! It promises that the answer is the one list of tokens that the bytes have, or the first rule that
+//! they break at its place. Start at `file_tokens`, and at specs/Tokens.antt.
+#![tactic(auto)]
+
+ghost use Rattle.std.specs.Prelude.{◌≡◌, ◌⊎◌, ◌^◌, ◌<◌, ℕ, List, [], length, Contains, IfOk, Result, Err};
+ghost use Rattle.ag_base.specs.declared.place.Refusal.{Refusal};
+ghost use Rattle.ag_base.specs.declared.place.Refused.TheVariants.{Model};
+ghost use Rattle.ag_lex.specs.declared.token.Language.{Language};
+ghost use Rattle.ag_lex.specs.declared.token.Language.TheVariants.{Aadl, Agree};
+ghost use Rattle.ag_lex.specs.declared.token.Token.{Token};
+ghost use Rattle.ag_lex.specs.Tokens.{AreTokens, StandsIn};
+ghost use Rattle.ag_lex.specs.Rules.{IsFirstBroken, KeepsRules};
+ghost use Rattle.ag_lex.specs.Answers.{AreKept, IsReadUnlessMemory, IsRefusedUnlessMemory, IsAnnexOf, bytes_before, bytes_inside};
+
+mod class;
+mod cursor;
+mod found;
+mod number;
+mod scan;
+pub mod token;
+
+use ag_base::{List, Refused};
+use cursor::Cursor;
+use scan::{Stop, earlier, no_text, scan};
+use std::alloc::Global;
+pub use token::{Language, Token, TokenKind};
+
+/// The tokens of a file. `file` is its position among the files that are read, as places name it. It
+/// takes time and memory in proportion to the bytes.
+pub fn file_tokens(alloc: Global, file: u32, bytes: &[u8]) -> Result<List<Token>, Refused>
+    requires { length bytes.now < 2 ^ 31 }
+    // These are the tokens of the bytes, and no rule is broken.
+    ensures ok { IfOk result (λ tokens. AreKept Aadl file [] bytes.now tokens) }
+    // The refusal is the first broken rule, at its place.
+    ensures refused { (r : Refusal) → result ≡ Err (Model r) → IsFirstBroken Aadl file [] bytes.now r }
+    // So Ok comes exactly where no rule is broken, and a refusal exactly where one is, unless memory was wanting.
+    ensures read { (tokens : List Token) → AreKept Aadl file [] bytes.now tokens → IsReadUnlessMemory result tokens }
+    ensures broken { (r : Refusal) → IsFirstBroken Aadl file [] bytes.now r → IsRefusedUnlessMemory result r }
+{
+    let start = Cursor::of_file(file);
+    let no_text = no_text(bytes, start);
+    match scan(alloc, Language::Aadl, bytes, start) {
+        Err(Stop::OutOfMemory) => Err(Refused::OutOfMemory),
+        Err(Stop::Broken(fault)) => Err(Refused::Model(earlier(no_text, fault))),
+        Ok(tokens) => match no_text {
+            None => Ok(tokens),
+            Some(fault) => Err(Refused::Model(fault.refusal)),
+        },
+    }
+}
+
+/// The tokens between the marks of one of the file's annexes, in `bytes` of the whole file. Spans and
+/// places are those in the file, and the end of the text is the place of the annex's `**}`.
+pub fn annex_tokens(alloc: Global, bytes: &[u8], annex: &Token) -> Result<List<Token>, Refused>
+    requires short { length bytes.now < 2 ^ 31 }
+    requires annex { IsAnnexOf bytes.now annex.now }
+    // These are the tokens of the bytes between the marks, and no rule is broken there.
+    ensures ok { IfOk result (λ tokens. AreKept Agree annex.now.place.file (bytes_before bytes.now annex.now) (bytes_inside bytes.now annex.now) tokens) }
+    // The refusal is the first broken rule, at its place.
+    ensures refused { (r : Refusal) → result ≡ Err (Model r) → IsFirstBroken Agree annex.now.place.file (bytes_before bytes.now annex.now) (bytes_inside bytes.now annex.now) r }
+    // So Ok comes exactly where no rule is broken, and a refusal exactly where one is, unless memory was wanting.
+    ensures read { (tokens : List Token) → AreKept Agree annex.now.place.file (bytes_before bytes.now annex.now) (bytes_inside bytes.now annex.now) tokens → IsReadUnlessMemory result tokens }
+    ensures broken { (r : Refusal) → IsFirstBroken Agree annex.now.place.file (bytes_before bytes.now annex.now) (bytes_inside bytes.now annex.now) r → IsRefusedUnlessMemory result r }
+{
+    let start = Cursor::of_annex(annex);
+    let end = annex.end as usize - 3;
+    match scan(alloc, Language::Agree, &bytes[..end], start) {
+        Err(Stop::OutOfMemory) => Err(Refused::OutOfMemory),
+        Err(Stop::Broken(fault)) => Err(Refused::Model(fault.refusal)),
+        Ok(tokens) => Ok(tokens),
+    }
+}
+
+/// A text has one list of tokens at most.
+pub fn one_reading()
+    ensures { (l : Language) (file : ℕ) (before text : List ℕ) (tokens others : List Token) → AreTokens l file before text tokens → AreTokens l file before text others → tokens ≡ others }
+{}
+
+/// A text has one first broken rule at most.
+pub fn one_refusal()
+    ensures { (l : Language) (file : ℕ) (before text : List ℕ) (r s : Refusal) → IsFirstBroken l file before text r → IsFirstBroken l file before text s → r ≡ s }
+{}
+
+/// Each text has tokens and breaks no rule, or it has a first broken rule.
+pub fn one_of_the_two()
+    ensures { (l : Language) (file : ℕ) (before text : List ℕ) → ((tokens : List Token) × AreKept l file before text tokens) ⊎ ((r : Refusal) × IsFirstBroken l file before text r) }
+{}
+
+/// Each token of a text stands in it: the bytes of its span are a token of its kind.
+pub fn tokens_stand()
+    ensures { (l : Language) (file : ℕ) (before text : List ℕ) (tokens : List Token) (token : Token) → AreTokens l file before text tokens → Contains tokens token → StandsIn l file before text token }
+{}
+
+#[cfg(test)]
+mod tests;
