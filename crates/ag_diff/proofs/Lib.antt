@@ -1,0 +1,12 @@
+mod Values
+mod Rows
+mod Ways
+mod Ranks
+mod Sweeping
+mod Sums
+mod Unfolds
+mod Combining
+mod Deciding
+mod TestRows
+mod Fanning
+mod Starting

@@ -1,0 +1,2 @@
+-- What a solver answers.
+pub mod Decides

@@ -1,0 +1,12 @@
+pub mod Lits
+pub mod Values
+pub mod Looking
+pub mod Backing
+pub mod Listing
+pub mod Drawing
+pub mod Units
+pub mod NewFacts
+pub mod Going
+pub mod Starting
+pub mod Solving
+pub mod Budget
