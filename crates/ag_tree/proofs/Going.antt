@@ -106,8 +106,8 @@ longer_sound before now [] more sound = tt
 longer_sound before now (s ∷ rest) more sound =
     (record { fresh = sound.0.fresh; drawn = λ n e. longer_drawn before now n s.lit (literals rest) more (sound.0.drawn n e) }, longer_sound before now rest more sound.1)
 
-pub going_grown : (s : Progress) (k : State) → IsGoing s → HasGrown s.kernel k → take (length k.query.atoms) k.atoms ≡ k.query.atoms → IsGoing (record s { kernel = k })
-going_grown s k g grown begins =
+pub going_grown : (s : Progress) (k : State) (asked : ℕ) → IsGoing s → HasGrown s.kernel k → take (length k.query.atoms) k.atoms ≡ k.query.atoms → IsGoing (record s { kernel = k; asked = asked })
+going_grown s k asked g grown begins =
     let more : IsLonger s.kernel.lines k.lines = record { begins = grown.lines } in
     let e : s.kernel.query ≡ k.query = sym grown.query in
     let L : LClause → Type 0 = λ c. IsListed s.kernel.lines s.occurrences c.lits in
@@ -125,6 +125,21 @@ going_grown s k g grown begins =
       listed = subst (λ (q : Query). All M (q.clauses ++ s.facts)) e (All-weaker L M (λ c h. longer_listed s.kernel.lines k.lines s.occurrences c.lits more h) (known s) g.listed);
       unseen = All-weaker (IsClauseLine s.kernel.lines s.trail.atoms) (IsClauseLine k.lines s.trail.atoms) (λ n h. longer_clause s.kernel.lines k.lines s.trail.atoms n more h) s.unseen.items g.unseen;
     }
+
+pub going_asked : (s : Progress) (asked : ℕ) → IsGoing s → IsGoing (record s { asked = asked })
+going_asked s asked g = record {
+  begins = g.begins;
+  atoms = g.atoms;
+  sound = g.sound;
+  rests = g.rests;
+  kept = g.kept;
+  counted = g.counted;
+  few = g.few;
+  slots = g.slots;
+  lists = g.lists;
+  listed = g.listed;
+  unseen = g.unseen;
+}
 
 pub rest_grown : (s : Progress) (k : State) → HasGrown s.kernel k → AreAtRest s → AreAtRest (record s { kernel = k })
 rest_grown s k grown rest = subst (λ (q : Query). IsAtRestAlong (literals s.trail.steps) (q.clauses ++ s.facts)) (sym grown.query) rest
@@ -249,8 +264,8 @@ added_listed : (lines : List Line) (before now : List (List ℕ)) (lits clause :
 added_listed lines before now lits clause line a c =
     record { number = c.number; there = c.there; is_line = c.is_line; under = λ k d lt. a.kept (contrary (get_or clause k d)) c.number (c.under k d lt) }
 
-pub learned_going : (s : Progress) (fact : Fact) (lists : List (List ℕ)) (t : Seen) (l : Lit) (f : LClause) (facts : List LClause) (count head lowest : ℕ) (unseen : Vec ℕ Global) → IsGoing s → IsConcluded s fact → 0 < length fact.lits.items → s.literals + length fact.lits.items ≤ 600000 → IsAdded s.occurrences lists fact.lits.items fact.number → IsBackTo s.trail.steps t.steps l → t.atoms ≡ s.trail.atoms → f.lits ≡ fact.lits.items → facts ≡ s.facts ++ f ∷ [] → count ≡ s.literals + length fact.lits.items → unseen.items ≡ fact.number ∷ [] → IsGoing (record { kernel = s.kernel; occurrences = lists; trail = t; facts = facts; literals = count; head = head; unseen = unseen; lowest = lowest })
-learned_going s fact lists t l f facts count head lowest unseen g c some few a back atoms lits is counted one =
+pub learned_going : (s : Progress) (fact : Fact) (lists : List (List ℕ)) (t : Seen) (l : Lit) (f : LClause) (facts : List LClause) (count head asked lowest : ℕ) (unseen : Vec ℕ Global) → IsGoing s → IsConcluded s fact → 0 < length fact.lits.items → s.literals + length fact.lits.items ≤ 600000 → IsAdded s.occurrences lists fact.lits.items fact.number → IsBackTo s.trail.steps t.steps l → t.atoms ≡ s.trail.atoms → f.lits ≡ fact.lits.items → facts ≡ s.facts ++ f ∷ [] → count ≡ s.literals + length fact.lits.items → unseen.items ≡ fact.number ∷ [] → IsGoing (record { kernel = s.kernel; occurrences = lists; trail = t; facts = facts; literals = count; head = head; unseen = unseen; asked = asked; lowest = lowest })
+learned_going s fact lists t l f facts count head asked lowest unseen g c some few a back atoms lits is counted one =
     let q : Query = s.kernel.query in
     let lines : List Line = s.kernel.lines in
     let C : ℕ → ℕ → Type 0 = λ n k. IsClauseLine lines n k in
@@ -282,8 +297,8 @@ learned_going s fact lists t l f facts count head lowest unseen g c some few a b
       unseen = subst (λ (ns : List ℕ). All (C t.atoms) ns) (sym one) (subst (λ (k : ℕ). All (C k) (fact.number ∷ [])) (sym atoms) (All-cons (C s.trail.atoms) fact.number [] line (All-nil (C s.trail.atoms))));
     }
 
-pub learned_ready : (s : Progress) (fact : Fact) (lists : List (List ℕ)) (t : Seen) (l : Lit) (f : LClause) (facts : List LClause) (count head lowest : ℕ) (unseen : Vec ℕ Global) → IsGoing s → IsConcluded s fact → IsBackTo s.trail.steps t.steps l → f.lits ≡ fact.lits.items → facts ≡ s.facts ++ f ∷ [] → head ≡ length t.steps → unseen.items ≡ fact.number ∷ [] → IsReady (record { kernel = s.kernel; occurrences = lists; trail = t; facts = facts; literals = count; head = head; unseen = unseen; lowest = lowest })
-learned_ready s fact lists t l f facts count head lowest unseen g c back lits is at one =
+pub learned_ready : (s : Progress) (fact : Fact) (lists : List (List ℕ)) (t : Seen) (l : Lit) (f : LClause) (facts : List LClause) (count head asked lowest : ℕ) (unseen : Vec ℕ Global) → IsGoing s → IsConcluded s fact → IsBackTo s.trail.steps t.steps l → f.lits ≡ fact.lits.items → facts ≡ s.facts ++ f ∷ [] → head ≡ length t.steps → unseen.items ≡ fact.number ∷ [] → IsReady (record { kernel = s.kernel; occurrences = lists; trail = t; facts = facts; literals = count; head = head; unseen = unseen; asked = asked; lowest = lowest })
+learned_ready s fact lists t l f facts count head asked lowest unseen g c back lits is at one =
     let q : Query = s.kernel.query in
     let whole : (q.clauses ++ s.facts) ++ f ∷ [] ≡ q.clauses ++ facts = append_assoc q.clauses s.facts (f ∷ []) ∙ ap (λ (xs : List LClause). q.clauses ++ xs) (sym is) in
     let R : LClause → Type 0 = λ x. IsAtRest (literals t.steps) x.lits in

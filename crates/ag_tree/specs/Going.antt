@@ -13,7 +13,7 @@ use Rattle.ag_tree.specs.declared.rounds.Round.{Round}
 use Rattle.ag_tree.specs.declared.rounds.Round.TheVariants as round
 use Rattle.ag_tree.specs.declared.rounds.Reached.{Reached}
 use Rattle.ag_tree.specs.declared.rounds.Reached.TheVariants as reached
-use Rattle.ag_tree.specs.Facts.{HasNoneBothWays, AreFacts, IsAtRest, IsAtRestAlong, literal_count}
+use Rattle.ag_tree.specs.Facts.{HasNoneBothWays, Lacks, AreFacts, IsAtRest, IsAtRestAlong, literal_count}
 use Rattle.ag_tree.specs.Trail.{Seen, literals, denial, AreSound, RestsBefore, IsAgainst, IsSettled}
 use Rattle.ag_tree.specs.Listing.{listed}
 use Rattle.ag_tree.specs.Answers.{IsMet, IsSpent, IsLeafOf}
@@ -97,6 +97,7 @@ pub record IsConcluded (s : Progress) (fact : Fact) : Type 0 where
 -- what stands against the trail, or what the theory finds of a trail at rest
 abbrev pub ReachesAs : Bool → Progress → Reached → Type 0
 ReachesAs leaves s (reached.Conflict n) = IsAgainst s.kernel.lines s.trail.steps n
+ReachesAs leaves s (reached.Open atom) = AreAtRest s × (atom < s.trail.atoms) × Lacks (literals s.trail.steps) atom
 ReachesAs leaves s (reached.Model numbers) = AreAtRest s × SatisfiesRows s.kernel (literals s.trail.steps) numbers
 ReachesAs leaves s reached.Leaf = IsTrue leaves × AreAtRest s
 

@@ -16,11 +16,11 @@ use ag_query::Query;
 use std::alloc::Global;
 
 /// Searches for a valuation that meets the query, and keeps at most `work` facts. Atoms are chosen
-/// by number, the lowest first, each as one that holds. It asks the theory each time that the
-/// literals are at rest, and the halt at each fact.
+/// by number, the lowest first, each as one that holds. It asks the halt at each fact, and the theory
+/// where the literals are at rest and a new one of them says a row, or no atom is without a value.
 ///
-/// Of a leaf the contract doesn't say yet that trying its rows ends spent for the theory's limit. A
-/// query of more atoms than u32 can number is answered by `OutOfMemory`.
+/// Of a leaf the contract doesn't say yet that trying its rows goes past the theory's limit. A query
+/// of more atoms than u32 can number is answered by `OutOfMemory`.
 pub fn search<T: Theory, H: Halt>(
     alloc: Global,
     query: &Query,

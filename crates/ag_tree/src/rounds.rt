@@ -18,7 +18,7 @@ use crate::propagation::{add_line, pass, propagate};
 use crate::trail::{Step, Trail};
 use ag_base::{Halt, Halted, List, OutOfMemory};
 use ag_kernel::{Found, Kernel, Theory};
-use ag_query::{LClause, Lit, Lits, Query, Valuation};
+use ag_query::{Atom, LClause, Lit, Lits, Query, Valuation};
 use std::alloc::Global;
 
 /// The most literals that the kept facts have together.
@@ -38,6 +38,8 @@ pub struct Progress {
     pub head: usize,
     /// Lines that have not been looked at since the last choice was taken back.
     pub unseen: Vec<u32>,
+    /// How many steps the theory has seen, or have literals that say no row.
+    pub asked: usize,
     /// Where the next choice is looked for first.
     pub lowest: u32,
 }
@@ -66,6 +68,8 @@ pub enum Round {
 pub enum Reached {
     /// The number of a line that is against the trail.
     Conflict(u32),
+    /// The trail is at rest, and this atom has no value. The theory isn't asked.
+    Open(u32),
     /// The trail is at rest, and these numbers are as it says.
     Model(List<i64>),
     /// The trail is at rest, and the theory gives up.
@@ -94,6 +98,7 @@ impl Progress {
             literals: 0,
             head: 0,
             unseen,
+            asked: 0,
             lowest: 0,
         })
     }
@@ -120,12 +125,17 @@ impl Progress {
     {
         match self.reach(alloc, theory, halt)? {
             Reached::Conflict(line) => self.turn(alloc, line, work, halt),
+            Reached::Open(atom) => {
+                self.choose(atom)?;
+                Ok(Round::Going)
+            }
             Reached::Model(whole) => Ok(self.after_model(alloc, whole)?),
             Reached::Leaf => Ok(self.after_leaf(alloc)?),
         }
     }
 
-    /// Comes to rest and asks the theory, or comes to a conflict.
+    /// Comes to rest and asks the theory, or comes to a conflict. The theory isn't asked where an atom
+    /// is without a value and no new literal says a row.
     fn reach<T: Theory, H: Halt>(
         &mut self,
         alloc: Global,
@@ -147,6 +157,11 @@ impl Progress {
     {
         if let Some(line) = self.settle()? {
             return Ok(Reached::Conflict(line));
+        }
+        let due = says_row(&self.trail, self.asked, self.kernel.query());
+        self.asked = self.trail.len();
+        if !due && let Some(atom) = self.trail.first_unset(self.lowest) {
+            return Ok(Reached::Open(atom));
         }
         let lits = self.trail.lits(alloc)?;
         match theory.decide(alloc, &mut self.kernel, &lits, halt)? {
@@ -284,7 +299,9 @@ impl Progress {
             unreachable!();
         };
         self.lowest = choice.atom;
-        self.head = self.trail.len();
+        let steps = self.trail.len();
+        self.head = steps;
+        self.asked = self.asked.min(steps);
         self.unseen.clear();
         self.unseen.push(number)?;
         Ok(())
@@ -309,6 +326,17 @@ impl Progress {
             reason: None,
         })
     }
+}
+
+/// Whether a step from this place on has a literal that says a row.
+fn says_row(trail: &Trail, from: usize, query: &Query) -> bool {
+    for place in from..trail.len() {
+        let atom = trail.literal(place).atom;
+        if let Some(Atom::Bound(_)) = query.atoms.as_slice().get(atom as usize) {
+            return true;
+        }
+    }
+    false
 }
 
 /// Lists each clause under the contraries of its literals, and answers the numbers of all.
