@@ -19,12 +19,12 @@ use Rattle.ag_lex.specs.Characters.{is_space, is_line_byte, is_word_byte, is_num
 use Rattle.ag_lex.specs.Places.{place_of}
 use Rattle.ag_lex.specs.Spelling.{long_symbols}
 use Rattle.ag_lex.specs.Tokens.{Piece, piece_bytes, AreRead, tokens_of}
-use Rattle.ag_lex.specs.Rules.{Breaks, IsNoText, IsBrokenAt, IsFirstBroken, decimal, order_of}
+use Rattle.ag_lex.specs.Rules.{Breaks, IsNoText, IsBrokenAt, IsFirstBroken, AreFine, decimal, order_of}
 use Rattle.ag_lex.specs.Answers.{AreKept}
 use Rattle.ag_lex.specs.Scanning.{IsFound, IsWide, closes_at, first_front, fraction_at}
 use Rattle.ag_lex.proofs.Founds.{piece_of, token_of_kind, space_is, comment_is, text_is, text_open, annex_is, annex_open, name_is, name_long, real_is, number_is, number_wide, symbol_is, bad_is}
 use Rattle.ag_lex.proofs.OnePiece.{some_bytes}
-use Rattle.ag_lex.proofs.Reaching.{AreFine, reach_before, one_rule, breaks_some}
+use Rattle.ag_lex.proofs.Reaching.{reach_before, one_rule, breaks_some}
 use Rattle.ag_lex.proofs.Whole.{no_end_of_text, one_end_of_text, not_aadl}
 
 -- ---- at one place

@@ -17,8 +17,8 @@ use Rattle.ag_lex.specs.declared.token.TokenKind.TheVariants.{Name, Number, Real
 use Rattle.ag_lex.specs.Characters.{is_space, is_line_byte, is_word_byte, is_number_byte, is_text_byte, is_sign, is_bad_byte, begins, ends_line}
 use Rattle.ag_lex.specs.Spelling.{is_fraction, long_symbols}
 use Rattle.ag_lex.specs.Tokens.{Space, Comment, Lexeme, piece_bytes}
-use Rattle.ag_lex.specs.Rules.{Breaks}
-use Rattle.ag_lex.specs.Scanning.{IsFound, IsFine, IsWide, closes_at, first_front, fraction_at}
+use Rattle.ag_lex.specs.Rules.{Breaks, IsFine}
+use Rattle.ag_lex.specs.Scanning.{IsFound, IsWide, closes_at, first_front, fraction_at}
 use Rattle.ag_lex.proofs.Fronts.{starts, starts_from, list_all-take, begins-drop, line_ended, run_begins, begins-append}
 use Rattle.ag_lex.proofs.Closing.{closes_some, closes_none}
 use Rattle.ag_lex.proofs.Longest.{name_found, number_found, real_found, text_found, annex_found, symbol_found, symbol_within}

@@ -10,3 +10,4 @@ pub mod Steps
 pub mod Whole
 pub mod Annexes
 pub mod Either
+pub mod Made

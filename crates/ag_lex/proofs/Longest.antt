@@ -250,7 +250,7 @@ front_spelled (s ∷ ss) here h =
           ])
     ]
 
-one_byte : (more : List ℕ) → is_sign_alone more ≡ true → length more ≡ 1
+pub one_byte : (more : List ℕ) → is_sign_alone more ≡ true → length more ≡ 1
 one_byte [] h = absurd cc
 one_byte (b ∷ []) h = refl
 one_byte (b ∷ c ∷ bs) h = absurd cc

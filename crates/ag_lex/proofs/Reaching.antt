@@ -14,8 +14,7 @@ use Rattle.ag_lex.specs.declared.token.TokenKind.TheVariants.{Name, Number}
 use Rattle.ag_lex.specs.Characters.{is_space, is_text_byte, is_bad_byte, begins, ends_line}
 use Rattle.ag_lex.specs.Spelling.{IsToken, has_close, is_symbol}
 use Rattle.ag_lex.specs.Tokens.{Piece, Space, Comment, Lexeme, piece_bytes, IsPiece, AreRead}
-use Rattle.ag_lex.specs.Rules.{Breaks, decimal}
-use Rattle.ag_lex.specs.Scanning.{IsFine}
+use Rattle.ag_lex.specs.Rules.{Breaks, IsFine, AreFine, decimal}
 use Rattle.ag_lex.proofs.Fronts.{same_front, longer_front, head, begins-head, text_ends}
 use Rattle.ag_lex.proofs.Closing.{closes_inside}
 use Rattle.ag_lex.proofs.KindsApart.{filled, group, group_of, group_is, not_bad, no_annex_symbol}
@@ -83,10 +82,6 @@ fine_keeps Agree p after here WideNumber is fine e b = no_wide_number p after b.
 fine_keeps l p after here _ is fine e b = absurd b
 
 -- ---- how far reading comes
-
-abbrev pub AreFine : Language → List Piece → Type 0
-AreFine l [] = Unit {0}
-AreFine l (p ∷ ps) = IsFine l p × AreFine l ps
 
 no_longer : (l : Language) (ps : List Piece) (text rest : List ℕ) → AreRead l ps text rest → length rest ≤ length text
 no_longer l [] text rest r = omega (arith, ap length r)

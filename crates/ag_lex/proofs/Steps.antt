@@ -14,11 +14,11 @@ use Rattle.ag_lex.specs.declared.token.Token.{Token}
 use Rattle.ag_lex.specs.declared.token.TokenKind.{TokenKind}
 use Rattle.ag_lex.specs.Places.{place_of}
 use Rattle.ag_lex.specs.Tokens.{Piece, Space, Comment, Lexeme, piece_bytes, IsPiece, AreRead, tokens_in, tokens_of}
-use Rattle.ag_lex.specs.Rules.{Breaks}
-use Rattle.ag_lex.specs.Scanning.{IsFine, IsFound, IsNext, IsFaultAt, IsFirstFault, IsScanned, IsStop, StopsFirst, kind_in}
+use Rattle.ag_lex.specs.Rules.{Breaks, IsFine, AreFine}
+use Rattle.ag_lex.specs.Scanning.{IsFound, IsNext, IsFaultAt, IsFirstFault, IsScanned, IsStop, StopsFirst, kind_in}
 use Rattle.ag_lex.proofs.OnePiece.{some_bytes}
 use Rattle.ag_lex.proofs.Placing.{file_is}
-use Rattle.ag_lex.proofs.Reaching.{AreFine, reach_before, one_rule, breaks_some}
+use Rattle.ag_lex.proofs.Reaching.{reach_before, one_rule, breaks_some}
 
 pub untold : (file : ℕ) (before : List ℕ) (p : Piece) (old : List Token) → None ≡ kind_in p → old ≡ old ++ tokens_in file before p
 untold file before (Space b) old e = sym (append-nil old)

@@ -1,5 +1,5 @@
 -- The rules that a text may break, and the one that is broken first.
-use Rattle.std.specs.Prelude.{◌≡◌, ◌<◌, ◌≤◌, ℕ, ◌+◌, ◌-◌, ◌*◌, ◌^◌, ◌⊎◌, not, List, ◌++◌, length, take, drop, fold, IsTrue, codes}
+use Rattle.std.specs.Prelude.{◌≡◌, ◌<◌, ◌≤◌, ℕ, ◌+◌, ◌-◌, ◌*◌, ◌^◌, ◌⊎◌, not, List, [], ◌∷◌, ◌++◌, length, take, drop, fold, IsTrue, codes}
 use Rattle.std.specs.List.{list_all}
 use Rattle.std.specs.Str.{IsValidUpTo}
 use Rattle.ag_base.specs.declared.place.Refusal.{Refusal}
@@ -11,7 +11,7 @@ use Rattle.ag_lex.specs.declared.token.TokenKind.TheVariants.{Name, Number}
 use Rattle.ag_lex.specs.Characters.{is_bad_byte, is_text_byte, begins, ends_line}
 use Rattle.ag_lex.specs.Spelling.{IsToken, has_close}
 use Rattle.ag_lex.specs.Places.{place_of}
-use Rattle.ag_lex.specs.Tokens.{Piece, AreRead}
+use Rattle.ag_lex.specs.Tokens.{Piece, Lexeme, AreRead}
 
 -- the number that digits write
 abbrev pub decimal : List ℕ → ℕ
@@ -62,6 +62,17 @@ pub record IsFirstBroken (l : Language) (file : ℕ) (before text : List ℕ) (r
   pub broken : IsBroken l text at r.rule
   pub placed : r.place ≡ place_of file (before ++ take at text)
   pub first : (n : ℕ) (rule : Rule) → IsBroken l text n rule → (at < n) ⊎ ((at ≡ n) × (order_of r.rule ≤ order_of rule))
+
+-- a name isn't too long, and a number of an annex not too large
+abbrev pub IsFine : Language → Piece → Type 0
+IsFine l (Lexeme Name own) = length own ≤ 255
+IsFine Agree (Lexeme Number own) = decimal own ≤ 2 ^ 47
+IsFine l _ = Unit {0}
+
+-- each of the pieces is so
+abbrev pub AreFine : Language → List Piece → Type 0
+AreFine l [] = Unit {0}
+AreFine l (p ∷ ps) = IsFine l p × AreFine l ps
 
 -- no rule is broken
 abbrev pub KeepsRules : Language → List ℕ → Type 0

@@ -17,12 +17,11 @@ use Rattle.ag_lex.specs.declared.scan.Stop.TheVariants.{Broken, OutOfMemory}
 use Rattle.ag_lex.specs.declared.token.Language.{Language}
 use Rattle.ag_lex.specs.declared.token.Language.TheVariants.{Aadl, Agree}
 use Rattle.ag_lex.specs.declared.token.TokenKind.{TokenKind}
-use Rattle.ag_lex.specs.declared.token.TokenKind.TheVariants.{Name, Number}
 use Rattle.ag_lex.specs.declared.token.Token.{Token}
 use Rattle.ag_lex.specs.Characters.{is_space, is_word_byte, is_number_byte, is_line_byte, is_text_byte, is_sign, begins}
 use Rattle.ag_lex.specs.Places.{place_of}
 use Rattle.ag_lex.specs.Tokens.{Piece, Space, Comment, Lexeme, piece_bytes, IsPiece, tokens_in, AreTokens}
-use Rattle.ag_lex.specs.Rules.{Breaks, IsBrokenAt, decimal}
+use Rattle.ag_lex.specs.Rules.{Breaks, IsBrokenAt, IsFine, decimal}
 
 abbrev pub has : Class → ℕ → Bool
 has class.Space b = is_space b
@@ -57,12 +56,6 @@ abbrev pub kind_in : Piece → Option TokenKind
 kind_in (Space b) = None
 kind_in (Comment text) = None
 kind_in (Lexeme kind own) = Some kind
-
--- a name isn't too long, and a number of an annex not too large
-abbrev pub IsFine : Language → Piece → Type 0
-IsFine l (Lexeme Name own) = length own ≤ 255
-IsFine Agree (Lexeme Number own) = decimal own ≤ 2 ^ 47
-IsFine l _ = Unit {0}
 
 -- what was found is the length and the kind of a piece that stands at the front
 pub record IsFound (l : Language) (found : Found) (here : List ℕ) : Type 0 where

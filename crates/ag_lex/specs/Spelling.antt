@@ -56,6 +56,10 @@ Spells l Symbol own = IsTrue (is_symbol own)
 abbrev pub IsLexeme : Language → List ℕ → Type 0
 IsLexeme l own = ((kind : TokenKind) × Spells l kind own) ⊎ ((own ≡ codes "--") ⊎ (own ≡ codes "{**"))
 
+-- with this byte behind it, own is the front of a longer symbol, or of a mark that begins a comment or an annex
+abbrev pub goes_on : List ℕ → ℕ → Bool
+goes_on own b = list_any (λ s. starts_with nat_eq s (own ++ b ∷ [])) (codes "--" ∷ codes "{**" ∷ long_symbols)
+
 -- own, with rest behind it, is a token of the kind: it spells one, and nothing longer that stands here is one or is such a mark
 pub record IsToken (l : Language) (kind : TokenKind) (own rest : List ℕ) : Type 0 where
   pub spelled : Spells l kind own

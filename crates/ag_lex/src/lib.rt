@@ -4,14 +4,19 @@
 //! they break at its place. Start at `file_tokens`, and at specs/Tokens.antt.
 #![tactic(auto)]
 
-ghost use Rattle.std.specs.Prelude.{◌≡◌, ◌⊎◌, ◌^◌, ◌<◌, ℕ, List, [], length, Contains, IfOk, Result, Err};
+ghost use Rattle.std.specs.Prelude.{◌≡◌, ◌⊎◌, ◌^◌, ◌<◌, ℕ, not, List, [], length, Contains, IfOk, IsTrue, Result, Err};
+ghost use Rattle.std.specs.Str.{IsUtf8};
 ghost use Rattle.ag_base.specs.declared.place.Refusal.{Refusal};
 ghost use Rattle.ag_base.specs.declared.place.Refused.TheVariants.{Model};
 ghost use Rattle.ag_lex.specs.declared.token.Language.{Language};
 ghost use Rattle.ag_lex.specs.declared.token.Language.TheVariants.{Aadl, Agree};
 ghost use Rattle.ag_lex.specs.declared.token.Token.{Token};
-ghost use Rattle.ag_lex.specs.Tokens.{AreTokens, StandsIn};
-ghost use Rattle.ag_lex.specs.Rules.{IsFirstBroken, KeepsRules};
+ghost use Rattle.ag_lex.specs.declared.token.TokenKind.TheVariants.{Name, Symbol};
+ghost use Rattle.ag_lex.specs.Characters.{begins, is_word_byte};
+ghost use Rattle.ag_lex.specs.Spelling.{IsToken, is_name, is_symbol, goes_on};
+ghost use Rattle.ag_lex.specs.Places.{place_of};
+ghost use Rattle.ag_lex.specs.Tokens.{Piece, AreRead, AreTokens, StandsIn, tokens_of};
+ghost use Rattle.ag_lex.specs.Rules.{IsFirstBroken, KeepsRules, AreFine};
 ghost use Rattle.ag_lex.specs.Answers.{AreKept, IsReadUnlessMemory, IsRefusedUnlessMemory, IsAnnexOf, bytes_before, bytes_inside};
 
 mod class;
@@ -21,7 +26,7 @@ mod number;
 mod scan;
 pub mod token;
 
-use ag_base::{List, Refused};
+use ag_base::{List, Place, Refused};
 use cursor::Cursor;
 use scan::{Stop, earlier, no_text, scan};
 use std::alloc::Global;
@@ -73,6 +78,14 @@ pub fn annex_tokens(alloc: Global, bytes: &[u8], annex: &Token) -> Result<List<T
     }
 }
 
+/// The place behind the last byte of a file.
+pub fn end_place(file: u32, bytes: &[u8]) -> Place
+    requires { length bytes.now < 2 ^ 31 }
+    ensures { result ≡ place_of file bytes.now }
+{
+    Cursor::of_file(file).after(bytes).place
+}
+
 /// A text has one list of tokens at most.
 pub fn one_reading()
     ensures { (l : Language) (file : ℕ) (before text : List ℕ) (tokens others : List Token) → AreTokens l file before text tokens → AreTokens l file before text others → tokens ≡ others }
@@ -91,6 +104,22 @@ pub fn one_of_the_two()
 /// Each token of a text stands in it: the bytes of its span are a token of its kind.
 pub fn tokens_stand()
     ensures { (l : Language) (file : ℕ) (before text : List ℕ) (tokens : List Token) (token : Token) → AreTokens l file before text tokens → Contains tokens token → StandsIn l file before text token }
+{}
+
+/// A name is a token where no letter, digit or `_` follows.
+pub fn names_end()
+    ensures { (l : Language) (own rest : List ℕ) → IsTrue (is_name own) → IsTrue (not (begins is_word_byte rest)) → IsToken l Name own rest }
+{}
+
+/// A symbol is a token where what follows doesn't go on with it.
+pub fn symbols_end()
+    ensures { (l : Language) (own rest : List ℕ) → IsTrue (is_symbol own) → IsTrue (not (begins (goes_on own) rest)) → IsToken l Symbol own rest }
+{}
+
+/// A text of pieces, of which no name is too long and no number too large, has the tokens among
+/// them and breaks no rule, if it is UTF-8 where it is a file.
+pub fn pieces_keep()
+    ensures { (l : Language) (file : ℕ) (before text : List ℕ) (pieces : List Piece) → AreRead l pieces text [] → AreFine l pieces → (l ≡ Aadl → IsUtf8 text) → AreKept l file before text (tokens_of file before pieces) }
 {}
 
 #[cfg(test)]
