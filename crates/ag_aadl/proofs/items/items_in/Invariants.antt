@@ -1,0 +1,6 @@
+use Rattle.std.proofs.Common.{◌≡◌, ◌++◌, drop, map}
+use Rattle.ag_aadl.specs.Meaning.{items_in}
+use Rattle.ag_aadl.proofs.items.items_in.Given as goal
+
+abbrev pub invariant-loop-part : goal.invariant-loop-part
+invariant-loop-part l = l.items ++ items_in l.bytes (map (λ p. p.now) (drop l.part-index l.parts)) ≡ items_in l.bytes (map (λ p. p.now) l.parts)
