@@ -1,5 +1,5 @@
 //! The engine for rows about differences.
-ghost use Rattle.std.specs.Prelude.{◌≡◌, ◌≤◌, ◌↔◌, ℕ, List, false, IfOk, IsErrOf};
+ghost use Rattle.std.specs.Prelude.{◌≡◌, ◌≤◌, ◌↔◌, ℕ, List, [], false, IfOk, IsErrOf};
 ghost use Rattle.ag_base.specs.Outside.{Rose};
 ghost use Rattle.ag_base.specs.declared.Halted.TheVariants.{Stopped};
 ghost use Rattle.ag_query.specs.declared.query.Query.{Query};
@@ -17,20 +17,32 @@ use ag_base::{Halt, Halted, List, OutOfMemory};
 use ag_kernel::{Found, Kernel, Theory};
 use ag_query::Lit;
 use std::alloc::Global;
+use std::marker::Model;
 
 /// Decides rows that bound a variable, a negated variable or the difference of two.
 ///
 /// A literal of a free atom says nothing. A literal that doesn't hold says the opposite of its row.
 /// It starts from the values of its last model, so that literals that are nearly the same cost little.
+/// In clauses it is these values.
 #[derive(Drop)]
 pub struct DiffEngine {
     /// The values of the vertices when they last made a model.
     values: Vec<i64>,
 }
 
+impl Model for DiffEngine {
+    ghost use Rattle.std.specs.Prelude.{List, ℤ};
+
+    ghost Value = { List ℤ };
+
+    ghost view = { λ e. e.values.items };
+}
+
 impl DiffEngine {
     /// An engine without a model. It takes no memory.
-    pub fn make(alloc: Global) -> DiffEngine {
+    pub fn make(alloc: Global) -> DiffEngine
+        ensures { result ≡ [] }
+    {
         DiffEngine {
             values: Vec::new(alloc),
         }

@@ -26,6 +26,7 @@ const LEAST_START: i64 = -1 << 60;
 pub fn start(alloc: Global, count: usize, values: &[i64]) -> Result<Vec<Vertex>, OutOfMemory>
     requires { count ≤ 8193 }
     ensures count { IfOk result (λ vertices. length vertices.items ≡ count) }
+    ensures values { length values.now ≡ count → All IsStart values.now → IfOk result (λ vertices. vertices.items ≡ map started values.now) }
     ensures vertices { IfOk result (λ vertices. AreVertices vertices.items) }
     ensures causes { IfOk result (λ vertices. (edges : List Edge) → HaveCauses edges vertices.items) }
 {
@@ -41,7 +42,7 @@ pub fn start(alloc: Global, count: usize, values: &[i64]) -> Result<Vec<Vertex>,
 
 /// Whether each value is one to start from.
 fn are_starts(values: &[i64]) -> bool
-    ensures { IsTrue result → All IsStart values.now }
+    ensures { IsTrue result ↔ All IsStart values.now }
 {
     values.iter().all(|v| LEAST_START <= *v && *v <= 0)
 }
