@@ -17,6 +17,7 @@ mod units;
 
 pub use kernel::Kernel;
 pub use line::{KernelFault, Line};
+pub use marks::Marked;
 pub use theory::{Found, Theory};
 
 #[cfg(test)]

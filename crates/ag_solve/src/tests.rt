@@ -85,6 +85,29 @@ fn orders(alloc: Global, both: bool) -> Result<Query, OutOfMemory> {
     Ok(Query::make(2, atoms, clauses))
 }
 
+// The first atom, the second, and the first again, as one that holds or doesn't.
+fn twice(alloc: Global, again: bool) -> Result<Query, OutOfMemory> {
+    let mut clauses = List::new(alloc);
+    let lits = [
+        Lit {
+            atom: 0,
+            holds: true,
+        },
+        Lit {
+            atom: 1,
+            holds: true,
+        },
+        Lit {
+            atom: 0,
+            holds: again,
+        },
+    ];
+    clauses.push(LClause {
+        lits: Lits::make(alloc, &lits)?,
+    })?;
+    Ok(Query::make(0, free_atoms(alloc)?, clauses))
+}
+
 #[derive(Clone, Copy, Debug, PartialEq, Eq)]
 enum Answer {
     Met,
@@ -101,7 +124,13 @@ fn answered<H: Halt>(alloc: Global, query: &Query, work: u32, halt: &mut H) -> A
     let Some(limits) = Limits::make(1, work, 100, 1, 0) else {
         return Answer::Refused;
     };
-    if !is_difference_query(query) || !has_plain_clauses(query) {
+    if !is_difference_query(query) {
+        return Answer::Refused;
+    }
+    let Ok(plain) = has_plain_clauses(alloc, query) else {
+        return Answer::OutOfMemory;
+    };
+    if !plain {
         return Answer::Refused;
     }
     match solve(alloc, query, &limits, halt) {
@@ -147,6 +176,16 @@ fn solves_clauses_over_rows(rt: HostRuntime) -> Result<(), Fail> {
     let alloc = rt.alloc();
     for (both, want) in [(false, Answer::Met), (true, Answer::Unsat)] {
         let query = orders(alloc, both)?;
+        assert_eq!(rt; answered(alloc, &query, 9, &mut Never), want);
+    }
+    Ok(())
+}
+
+#[test]
+fn takes_no_clause_with_an_atom_both_ways(rt: HostRuntime) -> Result<(), Fail> {
+    let alloc = rt.alloc();
+    for (again, want) in [(true, Answer::Met), (false, Answer::Refused)] {
+        let query = twice(alloc, again)?;
         assert_eq!(rt; answered(alloc, &query, 9, &mut Never), want);
     }
     Ok(())

@@ -5,6 +5,7 @@ pub mod Backing
 pub mod Listing
 pub mod Drawing
 pub mod Units
+pub mod BothWays
 pub mod NewFacts
 pub mod Going
 pub mod Starting

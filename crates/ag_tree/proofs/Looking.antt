@@ -29,7 +29,7 @@ value_read t now a x trail view lt e =
     let low : a < length t.values.items = subst (λ (s : Seen). a < s.atoms) (sym view) lt in
     ap (λ (s : Seen). truth_in (literals s.steps) a) (sym view) ∙ sym (tied a) ∙ sym (get_or_read t.values.items a x low e None)
 
-beq_true : (a b : Bool) → beq a b ≡ true → a ≡ b
+pub beq_true : (a b : Bool) → beq a b ≡ true → a ≡ b
 beq_true true true e = refl
 beq_true true false e = cc
 beq_true false true e = cc
