@@ -43,6 +43,7 @@ abbrev pub refusal_of : List ℕ → Token → List Token → Refusal
 refusal_of bytes first [] = record { place = place_of first.place.file bytes; rule = Expected }
 refusal_of bytes first (t ∷ ts) = refused_at (bad_rule (own bytes t)) t
 
+-- what is broken at the place of the first bad token
 abbrev pub refusal_at : List ℕ → List Token → ℕ → Refusal
 refusal_at bytes tokens at = refusal_of bytes (first_of tokens) (drop at tokens)
 
@@ -56,10 +57,12 @@ ends_in_part (m ∷ n ∷ ms) = ends_in_part (n ∷ ms)
 abbrev pub is_ended_wrongly : List ℕ → Names → List Marked → Bool
 is_ended_wrongly bytes n ms = is_end n.naming && (ends_in_part ms && not (same_names bytes n.package_name n.end))
 
+-- what is broken first where the tokens before a place break no rule: the name that stands whole behind a package's `end`, else what is broken at the place
 abbrev pub first_wrong : List ℕ → List Token → List Marked → Names → ℕ → Refusal
 first_wrong bytes tokens ms n at = if is_ended_wrongly bytes n ms then misnamed n else refusal_at bytes tokens at
 
--- The tokens before a place begin a text and break no rule, and there they fail, or end too early.
+-- The tokens before a place begin a text and break no rule, and there they fail, or end too early. What is refused is the
+-- token there, or the end; but the name behind a package's `end`, where it stands last, is whole and isn't the declared one.
 pub record BreaksGrammar (bytes : List ℕ) (tokens : List Token) (r : Refusal) : Type 0 where
   pub steps : List Step
   pub at : ℕ

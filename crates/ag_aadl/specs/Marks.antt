@@ -93,7 +93,7 @@ end_owner_mark = 21
 abbrev pub end_name_mark : ℕ
 end_name_mark = 22
 
--- `;` behind a package's last name
+-- `;` behind the name at a package's end
 abbrev pub close_mark : ℕ
 close_mark = 23
 

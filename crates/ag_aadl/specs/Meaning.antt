@@ -25,6 +25,7 @@ use Rattle.ag_aadl.specs.Words.{same}
 
 -- Names.
 
+-- a token as a name
 abbrev pub ident : List ℕ → Token → Ident
 ident bytes t = record { text = own bytes t; place = t.place }
 
@@ -38,6 +39,7 @@ joined bytes [] = []
 joined bytes (t ∷ []) = own bytes t
 joined bytes (t ∷ u ∷ ts) = own bytes t ++ (codes "::" ++ joined bytes (u ∷ ts))
 
+-- the name that some parts make, at the place of the first
 abbrev pub ident_of : List ℕ → List Token → Ident
 ident_of bytes parts = record { text = joined bytes parts; place = (first_of parts).place }
 
@@ -59,7 +61,7 @@ path_of bytes (t ∷ ts) bodies = Some (record {
 abbrev pub class_of : List ℕ → List Marked → Option Path
 class_of bytes ms = path_of bytes (under part_mark ms) (under class_body_mark ms)
 
--- the category of the first token under a mark
+-- the category that a word names
 abbrev pub category_of : ℕ → Category
 category_of terminal =
     if terminal == process_word then Process
@@ -68,20 +70,24 @@ category_of terminal =
     else (if terminal == abstract_word then Abstract
     else System)))
 
+-- the category that the first token under a mark names
 abbrev pub category_under : ℕ → List Marked → Category
 category_under mark [] = System
 category_under mark (m ∷ ms) = if m.mark == mark then category_of m.terminal else category_under mark ms
 
 -- Ports: the features that have a direction.
 
+-- the kind of a port that has `event` or not, and `data` or not
 abbrev pub kind_of : Bool → Bool → PortKind
 kind_of true true = port_kind.EventPlain
 kind_of true false = port_kind.Event
 kind_of false _ = port_kind.Plain
 
+-- the direction is `out`
 abbrev pub is_outward : List Marked → Bool
 is_outward ms = list_any (λ m. m.mark == direction_mark && m.terminal == out_word) ms
 
+-- a port, by the tokens from its name on
 abbrev pub port_of : List ℕ → List Marked → Port
 port_of bytes ms = record {
   name = ident_under bytes feature_mark ms;
@@ -90,14 +96,17 @@ port_of bytes ms = record {
   carries = class_of bytes ms;
 }
 
+-- the ports among some tokens, in order
 abbrev pub ports_of : List ℕ → List Marked → List Port
 ports_of bytes ms = map (port_of bytes) (filter (has_mark direction_mark) (segments (feature_mark ∷ []) ms))
 
 -- Subcomponents: those that have a category.
 
+-- a subcomponent, by the tokens from its name on
 abbrev pub sub_of : List ℕ → List Marked → Sub
 sub_of bytes ms = record { name = ident_under bytes sub_mark ms; category = category_under kind_mark ms; of = class_of bytes ms }
 
+-- the subcomponents among some tokens, in order
 abbrev pub subs_of : List ℕ → List Marked → List Sub
 subs_of bytes ms = map (sub_of bytes) (filter (has_mark kind_mark) (segments (sub_mark ∷ []) ms))
 
@@ -109,33 +118,41 @@ end_of bytes ms =
     if has_mark spot_port_mark ms then record { sub = Some (ident_under bytes spot_mark ms); port = ident_under bytes spot_port_mark ms }
     else record { sub = None; port = ident_under bytes spot_mark ms }
 
+-- the part at a position, and nothing past the last
 abbrev pub part_at : List (List Marked) → ℕ → List Marked
 part_at parts i = slice_index_or parts i []
 
+-- a connection, by the tokens from its name on: its ends are the first two
 abbrev pub wire_of : List ℕ → List Marked → Wire
 wire_of bytes ms =
     let spots = segments (spot_mark ∷ []) ms in
     record { name = ident_under bytes connection_mark ms; from = end_of bytes (part_at spots 0); to = end_of bytes (part_at spots 1) }
 
+-- the connections of ports among some tokens, in order
 abbrev pub wires_of : List ℕ → List Marked → List Wire
 wires_of bytes ms = map (wire_of bytes) (filter (has_mark spot_mark) (segments (connection_mark ∷ []) ms))
 
 -- Annexes: the texts of those whose name is `agree`.
 
+-- an annex has the name `agree`, in any case
 abbrev pub is_agree : List ℕ → List Marked → Bool
 is_agree bytes ms = same (own bytes (first_of (under annex_name_mark ms))) (codes "agree")
 
+-- the text of an annex
 abbrev pub annex_of : List Marked → Token
 annex_of ms = first_of (under annex_text_mark ms)
 
+-- the texts of the `agree` annexes among some tokens, in order
 abbrev pub annexes_of : List ℕ → List Marked → List Token
 annexes_of bytes ms = map annex_of (filter (is_agree bytes) (segments (annex_name_mark ∷ []) ms))
 
 -- Declarations: implementations have the name of their type besides their own, and annexes of a package have none.
 
+-- a component type, by the tokens from its category on
 abbrev pub frame_of : List ℕ → List Marked → Frame
 frame_of bytes ms = record { category = category_under item_mark ms; name = ident_under bytes declared_mark ms; ports = ports_of bytes ms; annexes = annexes_of bytes ms }
 
+-- an implementation, by the tokens from its category on
 abbrev pub body_of : List ℕ → List Marked → Body
 body_of bytes ms = record {
   category = category_under item_mark ms;
@@ -146,6 +163,7 @@ body_of bytes ms = record {
   annexes = annexes_of bytes ms;
 }
 
+-- a declaration, by the tokens from its first word on; other annexes are none
 abbrev pub item_of : List ℕ → List Marked → Option Item
 item_of bytes ms =
     if has_mark owner_mark ms then Some (item.Body (body_of bytes ms))
@@ -154,6 +172,7 @@ item_of bytes ms =
 
 -- Packages: a package's name, the names of those that it imports, and its declarations stand one behind the other.
 
+-- the first token has the mark
 abbrev pub begins_with : ℕ → List Marked → Bool
 begins_with mark [] = false
 begins_with mark (m ∷ ms) = m.mark == mark
@@ -162,15 +181,19 @@ begins_with mark (m ∷ ms) = m.mark == mark
 abbrev pub parts_of_package : List Marked → List (List Marked)
 parts_of_package ms = segments (package_mark ∷ import_mark ∷ item_mark ∷ end_mark ∷ []) ms
 
+-- the name of a package among some tokens
 abbrev pub name_of : List ℕ → List Marked → Ident
 name_of bytes ms = ident_of bytes (under part_mark ms)
 
+-- the packages that are imported, in order
 abbrev pub imports_in : List ℕ → List (List Marked) → List Ident
 imports_in bytes parts = map (name_of bytes) (filter (begins_with import_mark) parts)
 
+-- the declarations, in order
 abbrev pub items_in : List ℕ → List (List Marked) → List Item
 items_in bytes parts = filter_map (item_of bytes) (filter (begins_with item_mark) parts)
 
+-- a package, by the tokens from its word on
 abbrev pub package_of : List ℕ → List Marked → Package
 package_of bytes ms =
     let parts = parts_of_package ms in
@@ -180,5 +203,6 @@ package_of bytes ms =
       items = items_in bytes parts;
     }
 
+-- the packages of a file's tokens, in order
 abbrev pub packages_of : List ℕ → List Marked → List Package
 packages_of bytes ms = map (package_of bytes) (segments (package_mark ∷ []) ms)

@@ -182,7 +182,7 @@ lines =
     ∷ line plain_colons (t colons ∷ [])
     ∷ line plain_dot (t dot ∷ [])
     ∷ line plain_quiet (n quiet ∷ []) ∷ [])
-    -- quiet = a token that neither ends nor goes on with a foreign declaration, and no bracket
+    -- quiet = a token that neither begins nor goes on with the end of a foreign declaration, and no bracket
     ∷ (line quiet_package_word (t package_word ∷ [])
     ∷ line quiet_public_word (t public_word ∷ [])
     ∷ line quiet_with_word (t with_word ∷ [])

@@ -1,7 +1,8 @@
 -- Words and symbols that AADL has, and this profile of it doesn't.
-use Rattle.std.specs.Prelude.{ℕ, ◌+◌, List, [], ◌∷◌, codes, if◌then◌else◌}
+use Rattle.std.specs.Prelude.{ℕ, ◌+◌, List, [], ◌∷◌, codes, slice_index_or, if◌then◌else◌}
 use Rattle.ag_base.specs.declared.place.Rule.{Rule}
 use Rattle.ag_base.specs.declared.place.Rule.TheVariants.{Unsupported, Expected}
+use Rattle.ag_base.specs.declared.place.Word.{Word}
 use Rattle.ag_aadl.specs.Words.{same}
 
 -- a word's number is its position
@@ -11,6 +12,11 @@ unsupported_words =
     ∷ codes "refined" ∷ codes "feature" ∷ codes "out" ∷ codes "virtual" ∷ codes "property" ∷ codes "set" ∷ codes "<->"
     ∷ codes "[" ∷ codes "in" ∷ codes "delayed" ∷ []
 
+-- the word of a number, empty where the list lacks it
+abbrev pub word_text : Word → List ℕ
+word_text word = slice_index_or unsupported_words word.number []
+
+-- the number of `delayed`
 abbrev pub delayed : ℕ
 delayed = 16
 

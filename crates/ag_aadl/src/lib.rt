@@ -51,6 +51,7 @@ pub use packages::{
 pub use page::Packages;
 use rules::run;
 use std::alloc::Global;
+pub use unsupported::word_text;
 use words::terminals;
 
 // The tokens that were read, under their marks, and the place of the first bad one.

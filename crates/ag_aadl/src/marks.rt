@@ -69,7 +69,7 @@ pub const END_OWNER_MARK: u8 = 21;
 /// Behind `end` of a declaration its own name.
 pub const END_NAME_MARK: u8 = 22;
 
-/// `;` behind a package's last name.
+/// `;` behind the name at a package's end.
 pub const CLOSE_MARK: u8 = 23;
 
 /// The word `features`.

@@ -332,7 +332,7 @@ pub const PLAIN_LINES: &[Production<'static>] = &[
     },
 ];
 
-// quiet = a token that neither ends nor goes on with a foreign declaration, and no bracket
+// quiet = a token that neither begins nor goes on with the end of a foreign declaration, and no bracket
 pub const QUIET_LINES: &[Production<'static>] = &[
     Production {
         name: QUIET_PACKAGE_WORD,

@@ -1,6 +1,6 @@
 //! Words and symbols that AADL has, and this profile of it doesn't.
-ghost use Rattle.std.specs.Prelude.{◌≡◌, ◌≤◌, ◌+◌, length, map};
-ghost use Rattle.ag_aadl.specs.Unsupported.{bad_rule, first_bad_rule, unsupported_words};
+ghost use Rattle.std.specs.Prelude.{◌≡◌, ◌≤◌, ◌+◌, [], length, map, slice_index_or};
+ghost use Rattle.ag_aadl.specs.Unsupported.{bad_rule, first_bad_rule, unsupported_words, word_text};
 
 use crate::words::same;
 use ag_base::{Rule, Word};
@@ -49,4 +49,23 @@ pub fn bad_rule(text: &[u8]) -> Rule
     ensures { result ≡ bad_rule text.now }
 {
     first_bad_rule(0, UNSUPPORTED_WORDS, text)
+}
+
+// The text of that number, empty where there is none.
+fn nth(texts: &[&'static str], number: usize) -> &'static str
+    ensures { result.now ≡ slice_index_or (map (λ t. t.now) texts.now) number [] }
+{
+    if number < texts.len() {
+        texts[number]
+    } else {
+        ""
+    }
+}
+
+/// The word of that number, empty where the list lacks it.
+#[tactic(auto, unfolding(crate::specs::Unsupported::unsupported_words))]
+pub fn word_text(word: Word) -> &'static str
+    ensures { result.now ≡ word_text word }
+{
+    nth(UNSUPPORTED_WORDS, usize::from(word.number))
 }
