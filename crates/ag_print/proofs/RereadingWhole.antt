@@ -1,0 +1,91 @@
+-- The words of packages read back as the same packages.
+use Rattle.std.proofs.Common.{◌≡◌, ℕ, List, [], ◌∷◌, map, refl, sym, ap, subst, ◌∙◌}
+use Rattle.std.specs.Prelude.{IsTrue}
+use Rattle.std.specs.List.{flat_map, list_all}
+use Rattle.ag_grammar.specs.declared.grammar.Step.{Step}
+use Rattle.ag_grammar.specs.declared.grammar.Step.TheVariants.{Expand, Shift}
+use Rattle.ag_lex.specs.declared.token.Token.{Token}
+use Rattle.ag_aadl.specs.declared.marked.Marked.{Marked}
+use Rattle.ag_aadl.specs.declared.packages.Package.{Package}
+use Rattle.ag_aadl.specs.Marked.{marked}
+use Rattle.ag_aadl.specs.Meaning.{packages_of}
+use Rattle.ag_aadl.specs.Rules.{start}
+use Rattle.ag_aadl.specs.Words.{terminal_of, terminals_of}
+use Rattle.ag_print.specs.Canonical.{Spelled, canonical_text}
+use Rattle.ag_print.specs.Layout.{Word, word_at}
+use Rattle.ag_print.specs.Printable.{are_printable}
+use Rattle.ag_print.specs.Rereading.{StandAs, Declare, IsReread}
+use Rattle.ag_print.specs.Spelling.{marks_of, canonical_words, marks_of_words, IsReadCanonical}
+use Rattle.ag_print.proofs.RereadingSeen.{Seen, seen_of, packages_in, packages_seen, two}
+use Rattle.ag_print.proofs.RereadingLines.{seen, package_words, flat_packages}
+use Rattle.ag_print.proofs.RereadingAgain.{same_text}
+use Rattle.ag_print.proofs.RereadingBack.{packages_back}
+use Rattle.ag_print.proofs.RereadingRules.{told, names_hold, sections_hold, is_quiet, obeys}
+use Rattle.ag_print.proofs.RereadingKept.{names_kept, sections_kept, timing_kept}
+
+-- each token with the mark of its word
+abbrev pub marked_words : List Token → List Spelled → List Marked
+marked_words (t ∷ ts) (w ∷ ws) = record { mark = w.mark; terminal = terminal_of w.word.kind w.word.own; token = t } ∷ marked_words ts ws
+marked_words _ _ = []
+
+heads : {A : Type 0} {a b : A} {xs ys : List A} → (a ∷ xs) ≡ (b ∷ ys) → a ≡ b
+heads e = cc
+
+tails : {A : Type 0} {a b : A} {xs ys : List A} → (a ∷ xs) ≡ (b ∷ ys) → xs ≡ ys
+tails e = cc
+
+-- what is seen of the tokens is what the words are
+words_seen : (bytes : List ℕ) (tokens : List Token) (ws : List Spelled) → StandAs bytes tokens ws → map (seen_of bytes) (marked_words tokens ws) ≡ map seen ws
+words_seen bytes [] [] e = refl
+words_seen bytes [] (w ∷ ws) e = absurd cc
+words_seen bytes (t ∷ ts) [] e = absurd cc
+words_seen bytes (t ∷ ts) (w ∷ ws) e =
+    let one : word_at bytes t ≡ w.word = heads e in
+    two (λ (z : Word) (zs : List Seen). record { mark = w.mark; terminal = terminal_of w.word.kind w.word.own; text = z.own } ∷ zs) one (words_seen bytes ts ws (tails e))
+
+-- a derivation under the words' marks marks the tokens so
+pub marked_so : (bytes : List ℕ) (steps : List Step) (tokens : List Token) (ws : List Spelled) → StandAs bytes tokens ws → marks_of steps ≡ marks_of_words ws
+    → marked (terminals_of bytes tokens) tokens steps ≡ marked_words tokens ws
+marked_so bytes [] [] [] e m = refl
+marked_so bytes [] (t ∷ ts) [] e m = absurd cc
+marked_so bytes [] tokens (w ∷ ws) e m = absurd cc
+marked_so bytes (Expand name ∷ steps) tokens ws e m = marked_so bytes steps tokens ws e m
+marked_so bytes (Shift mark ∷ steps) [] [] e m = absurd cc
+marked_so bytes (Shift mark ∷ steps) (t ∷ ts) [] e m = absurd cc
+marked_so bytes (Shift mark ∷ steps) [] (w ∷ ws) e m = absurd cc
+marked_so bytes (Shift mark ∷ steps) (t ∷ ts) (w ∷ ws) e m =
+    let one : word_at bytes t ≡ w.word = heads e in
+    let same_mark : mark ≡ w.mark = heads m in
+    two (λ (z : ℕ × Word) (zs : List Marked). record { mark = z.0; terminal = terminal_of z.1.kind z.1.own; token = t } ∷ zs) (two (λ (k : ℕ) (v : Word). (k, v)) same_mark one)
+    (marked_so bytes steps ts ws (tails e) (tails m))
+
+-- the tokens that the words of packages stand as break no rule, and declare the same packages
+pub words_declare : (packages : List Package) → IsTrue (are_printable packages) → (bytes : List ℕ) (tokens : List Token) → StandAs bytes tokens (canonical_words packages)
+    → Declare bytes (marked_words tokens (canonical_words packages)) packages
+words_declare ps h bytes tokens e =
+    let ms = marked_words tokens (canonical_words ps) in
+    let lines = map seen (flat_map package_words ps) in
+    let are : map (seen_of bytes) ms ≡ lines = words_seen bytes tokens (canonical_words ps) e ∙ ap (map seen) (flat_packages ps) in (
+      obeys bytes ms start (ap (names_hold (told bytes start.names)) are ∙ names_kept ps (told bytes start.names)) (ap (sections_hold []) are ∙ sections_kept ps []) refl
+          (ap (list_all is_quiet) are ∙ timing_kept ps),
+      packages_seen bytes ms ∙ ap packages_in are ∙ packages_back ps h,
+    )
+
+-- so do those that a derivation marks
+pub rereads : (packages : List Package) → IsTrue (are_printable packages) → (bytes : List ℕ) (tokens : List Token) (steps : List Step) → StandAs bytes tokens (canonical_words packages)
+    → marks_of steps ≡ marks_of_words (canonical_words packages) → Declare bytes (marked (terminals_of bytes tokens) tokens steps) packages
+rereads ps h bytes tokens steps e m =
+    subst (λ (z : List Marked). Declare bytes z ps) (sym (marked_so bytes steps tokens (canonical_words ps) e m)) (words_declare ps h bytes tokens e)
+
+-- what the law of spelling says
+abbrev pub CanonicalSpells : Type 0
+CanonicalSpells = (file : ℕ) (packages : List Package) → IsTrue (are_printable packages) → (tokens : List Token) × (steps : List Step) × IsReadCanonical file packages tokens steps
+
+-- the canonical text of printable packages is a file that declares the same ones
+pub text_rereads : CanonicalSpells → (file : ℕ) (packages : List Package) → IsTrue (are_printable packages) → (tokens : List Token) × (found : List Package) × IsReread file packages tokens found
+text_rereads spells file ps h =
+    let read = spells file ps h in
+    let bytes = canonical_text ps in
+    let ms = marked (terminals_of bytes read.0) read.0 read.1 in
+    let declare = rereads ps h bytes read.0 read.1 read.2.words read.2.marks in
+    (read.0, packages_of bytes ms, record { kept = read.2.kept; read = record { steps = read.1; text = read.2.text; obeyed = declare.0; told = refl }; same = declare.1; again = same_text (packages_of bytes ms) ps declare.1 })

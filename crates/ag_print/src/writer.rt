@@ -1,0 +1,98 @@
+//! Writing text word by word.
+ghost use Rattle.std.specs.Prelude.{◌≡◌, ◌++◌, [], codes, OnOk, if◌then◌else◌};
+ghost use Rattle.ag_print.specs.Written.{name_word, symbol_word, nothing, with_word, with_words, with_end};
+ghost use Rattle.ag_print.specs.Canonical.{name_parts, parts_words};
+
+use crate::symbol::Symbol;
+use ag_base::{Bytes, List, OutOfMemory};
+use std::alloc::Global;
+use std::marker::Model;
+
+/// A text that grows by words and ends of lines. After an error a space may stand at its end that no
+/// word follows.
+#[derive(Drop)]
+pub struct Writer {
+    text: String,
+    /// Whether the next word stands right behind the text, as at a line's start.
+    joined: bool,
+}
+
+impl Model for Writer {
+    ghost use Rattle.std.specs.String.{string_bytes};
+    ghost use Rattle.ag_print.specs.Written.{Written};
+
+    ghost Value = { Written };
+
+    ghost view = { λ w. record { bytes = string_bytes w.text; joined = w.joined } };
+}
+
+impl Writer {
+    /// Nothing, which takes no memory.
+    pub fn new(alloc: Global) -> Writer
+        ensures { result ≡ nothing }
+    {
+        Writer {
+            text: String::new(alloc),
+            joined: true,
+        }
+    }
+
+    /// Writes a name or a word of the language, behind a space if one is due.
+    pub fn name(&mut self, name: &str) -> Result<(), OutOfMemory>
+        ensures { OnOk result (self.new ≡ with_word self.old (name_word name.now)) }
+    {
+        self.space()?;
+        self.text.push_str(name)?;
+        self.joined = false;
+        Ok(())
+    }
+
+    /// Writes the name of a package, whose parts stand apart by `::`, behind a space if one is due.
+    pub fn package_name(&mut self, name: &str) -> Result<(), OutOfMemory>
+        ensures { OnOk result (self.new ≡ with_words self.old (parts_words (name_parts name.now))) }
+    {
+        self.space()?;
+        self.text.push_str(name)?;
+        self.joined = false;
+        Ok(())
+    }
+
+    /// Writes a symbol, behind a space if one is due.
+    pub fn symbol(&mut self, symbol: Symbol) -> Result<(), OutOfMemory>
+        ensures { OnOk result (self.new ≡ with_word self.old (symbol_word symbol)) }
+    {
+        if !symbol.joins_before() {
+            self.space()?;
+        }
+        self.text.push_str(symbol.as_str())?;
+        self.joined = symbol.joins_behind();
+        Ok(())
+    }
+
+    /// Ends the line.
+    pub fn end_line(&mut self) -> Result<(), OutOfMemory>
+        ensures { OnOk result (self.new ≡ with_end self.old) }
+    {
+        self.text.push_str("\n")?;
+        self.joined = true;
+        Ok(())
+    }
+
+    /// The bytes of all that was written.
+    pub fn into_bytes(self) -> Bytes
+        ensures { result ≡ self.bytes }
+    {
+        let Writer { text, .. } = self;
+        List::from_vec(text.into_bytes())
+    }
+
+    /// Writes the space before a word that doesn't join.
+    fn space(&mut self) -> Result<(), OutOfMemory>
+        ensures { OnOk result (self.new ≡ record self.old { bytes = self.old.bytes ++ (if self.old.joined then [] else codes " ") }) }
+    {
+        if !self.joined {
+            self.text.push_str(" ")?;
+        }
+        Ok(())
+    }
+}
