@@ -11,3 +11,4 @@ mod Staging
 mod Checking
 mod Reading
 mod Tops
+mod Prints

@@ -2,7 +2,7 @@
 use Rattle.std.proofs.Common.{◌≡◌, ◌∙◌, ◌<◌, ◌≤◌, ◌++◌, [], ℕ, List, length, drop, Option, Some, None, refl, sym, ap, subst, arith, append_assoc, append-nil, length-append, inl, inr}
 use Rattle.std.specs.Prelude.{IfSome}
 use Rattle.ag_base.specs.Outside.{Takes, Rose}
-use Rattle.ag_top.specs.Outcome.{IsTextOf, IsTooLong}
+use Rattle.ag_top.specs.Words.{IsTextOf, IsTooLong}
 
 -- the source had these bytes and what it has left, where it tells
 pub record HasRead (before now : Option (List ℕ)) (bytes : List ℕ) : Type 0 where

@@ -4,7 +4,8 @@ use Rattle.ag_base.specs.declared.status.Status.{Status}
 use Rattle.ag_base.specs.declared.status.Status.TheVariants as statuses
 use Rattle.ag_top.specs.Entries.{PlainEntry}
 use Rattle.ag_top.specs.Stages.{IsEndOfCheck, IsEndOfText}
-use Rattle.ag_top.specs.Outcome.{IsCheck, IsTextOf, IsTextRefused, IsTextCut, IsTextBroken, IsBroken, IsRefusal, IsUnfinished, IsNothing}
+use Rattle.ag_top.specs.Words.{IsCheck, IsTextOf}
+use Rattle.ag_top.specs.Outcome.{IsTextRefused, IsTextCut, IsTextBroken, IsBroken, IsRefusal, IsUnfinished, IsNothing}
 
 -- a list of two
 pub two_items : (ws : List (List ℕ)) (a b : List ℕ) → 2 ≤ length ws → length ws < 3 → a ≡ get_or ws 0 a → b ≡ get_or ws 1 b → ws ≡ a ∷ b ∷ []
@@ -61,13 +62,17 @@ unfinished_of words left text history before now w r few (inr h) = inr record {
 -- of what a text gives the first bytes were written
 pub broken_of : (words : List (List ℕ)) (left : Option (List ℕ)) (text : List ℕ) (history : List PlainEntry) (before now : Option (List ℕ)) → IsCheck words → IsTextOf left text
     → length text ≤ 4194304 → IsTextBroken text history before now → IsBroken words left history before now
-broken_of words left text history before now w r few h = inr record {
+broken_of words left text history before now w r few h = inr (inl record {
   command = w;
   text = text;
   read = r;
   cause = inr (few, h);
-}
+})
 
 -- a refusal is no fault
 pub is_no_write_fault : statuses.ModelRefused ≡ statuses.WriteFault → ⊥
 is_no_write_fault e = cc
+
+-- nor is a usage
+pub usage_is_no_write_fault : statuses.Usage ≡ statuses.WriteFault → ⊥
+usage_is_no_write_fault e = cc

@@ -5,4 +5,7 @@ pub mod Store
 pub mod Trying
 pub mod Commands
 pub mod Stages
+pub mod Words
+pub mod Refusals
+pub mod Printing
 pub mod Outcome

@@ -1,5 +1,5 @@
 -- What a run of the program promises, from the words and the bytes that were read to the bytes that were written.
-use Rattle.std.specs.Prelude.{◌≡◌, ◌⊎◌, ◌<◌, ◌≤◌, ◌++◌, ◌∷◌, [], ℕ, List, length, take, All, Option, IfSome, codes}
+use Rattle.std.specs.Prelude.{◌≡◌, ◌⊎◌, ◌<◌, ◌≤◌, ◌++◌, ◌∷◌, [], ℕ, List, length, take, All, Option, IfSome}
 use Rattle.std.specs.List.{flat_map}
 use Rattle.ag_base.specs.declared.place.Place.{Place}
 use Rattle.ag_base.specs.declared.status.Status.{Status}
@@ -12,21 +12,9 @@ use Rattle.ag_top.specs.Entries.{PlainEntry}
 use Rattle.ag_top.specs.Machine.{start, state_after, IsLegal, undecided, tally}
 use Rattle.ag_top.specs.Store.{listed}
 use Rattle.ag_top.specs.Stages.{Partly}
+use Rattle.ag_top.specs.Printing.{IsPrintBroken}
+use Rattle.ag_top.specs.Words.{IsCheck, IsCommand, IsTextOf, usage_text, too_long_text}
 use Rattle.ag_top.specs.Commands.{Command, check, Said, Accepted, AllSettled, Told, Shut, text_of, listed_of, sought, Serves, IsToldOf, Grows, status_by}
-
--- the words of the one command
-abbrev pub IsCheck : List (List ℕ) → Type 0
-IsCheck words = words ≡ codes "check" ∷ codes "-" ∷ []
-
-abbrev pub usage_text : List ℕ
-usage_text = codes "usage: agreec check -\n"
-
-abbrev pub too_long_text : List ℕ
-too_long_text = codes "refused - TooLong\n"
-
--- the text that was read is all that the source has, where it tells
-abbrev pub IsTextOf : Option (List ℕ) → List ℕ → Type 0
-IsTextOf left text = IfSome left (λ bytes. text ≡ bytes)
 
 -- the replies, one after another
 abbrev pub text_all : Package → List Said → List ℕ
@@ -92,15 +80,9 @@ pub record IsNothing (history : List PlainEntry) (before now : Option (List ℕ)
   pub empty : history ≡ []
   pub unwritten : now ≡ before
 
--- a text of the source has more than 4,194,304 bytes
-pub record IsTooLong (left : Option (List ℕ)) : Type 0 where
-  pub text : List ℕ
-  pub read : IsTextOf left text
-  pub long : 4194304 < length text
-
--- the words are another command: the usage is written
+-- the words are no command: the usage is written
 pub record IsUsage (words : List (List ℕ)) (history : List PlainEntry) (before now : Option (List ℕ)) : Type 0 where
-  pub other : IsCheck words → ⊥
+  pub other : IsCommand words → ⊥
   pub written : Grows before now usage_text
   pub empty : history ≡ []
 
@@ -170,5 +152,5 @@ pub record IsReadBroken (words : List (List ℕ)) (left : Option (List ℕ)) (hi
 -- of what the words ask for only the first bytes were written
 abbrev pub IsBroken : List (List ℕ) → Option (List ℕ) → List PlainEntry → Option (List ℕ) → Option (List ℕ) → Type 0
 IsBroken words left history before now =
-    ((IsCheck words → ⊥) × Partly usage_text before now × (history ≡ []))
-    ⊎ IsReadBroken words left history before now
+    ((IsCommand words → ⊥) × Partly usage_text before now × (history ≡ []))
+    ⊎ (IsReadBroken words left history before now ⊎ IsPrintBroken words left history before now)

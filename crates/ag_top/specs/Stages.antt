@@ -119,3 +119,11 @@ IsEndOfText statuses.Usage = ⊥
 IsEndOfText statuses.ReadFault = ⊥
 IsEndOfText statuses.SessionRefused = ⊥
 IsEndOfText _ = Unit {0}
+
+-- the end of a print: its text or its refusal was written, or the sink or memory cut it short
+abbrev pub IsEndOfPrint : Status → Type 0
+IsEndOfPrint statuses.AllGood = Unit {0}
+IsEndOfPrint statuses.ModelRefused = Unit {0}
+IsEndOfPrint statuses.WriteFault = Unit {0}
+IsEndOfPrint statuses.OutOfMemory = Unit {0}
+IsEndOfPrint _ = ⊥

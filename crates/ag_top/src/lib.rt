@@ -1,20 +1,24 @@
 //! The top call: from words and bytes to the bytes that are written.
 //!
 //! It promises that the bytes written are the replies, in order, of one legal history of the
-//! verdict store, in which each verdict is true of what was read. Start at `agree` in top.rt, and at
-//! specs/Outcome.antt.
+//! verdict store, in which each verdict is true of what was read; or, for a print, the canonical text
+//! of what was read. Start at `agree` in top.rt, and at specs/Outcome.antt and specs/Printing.antt.
 #![tactic(auto)]
 
 mod board;
 mod check;
 pub mod history;
+mod print;
 mod prover;
 mod read;
+mod refusal;
 mod say;
 mod settle;
+mod tell;
 #[cfg(test)]
 mod tests;
 mod top;
+mod words;
 
 pub use check::Done;
 pub use top::agree;

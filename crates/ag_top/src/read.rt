@@ -1,7 +1,7 @@
 //! Reading the whole of a source.
 ghost use Rattle.std.specs.Prelude.{◌≡◌, ◌≤◌, length, IfOk, IsErrOf};
 ghost use Rattle.ag_base.specs.Outside.{Rose};
-ghost use Rattle.ag_top.specs.Outcome.{IsTextOf, IsTooLong};
+ghost use Rattle.ag_top.specs.Words.{IsTextOf, IsTooLong};
 ghost use Rattle.ag_top.specs.declared.read.TextFault.TheVariants as faults;
 
 use ag_base::{Bytes, Failed, List, MOST_FILE_BYTES, Source};

@@ -53,6 +53,19 @@ fn expect<R: Threads + Wait + Abort + Sync>(
     room: u32,
     wanted: (&str, Status, u32),
 ) -> Result<(), Fail> {
+    expect_of_bytes(rt, alloc, words, text.as_bytes(), failing, room, wanted)
+}
+
+/// The same on bytes that may be no text.
+fn expect_of_bytes<R: Threads + Wait + Abort + Sync>(
+    rt: &R,
+    alloc: Global,
+    words: &[&str],
+    text: &[u8],
+    failing: (u32, u32),
+    room: u32,
+    wanted: (&str, Status, u32),
+) -> Result<(), Fail> {
     let mut given = Vec::new(alloc);
     for word in words {
         given.push(Text::make(alloc, *word)?)?;
@@ -60,7 +73,7 @@ fn expect<R: Threads + Wait + Abort + Sync>(
     let (mut reads, mut writes) = (List::new(alloc), List::new(alloc));
     reads.push(failing.0)?;
     writes.push(failing.1)?;
-    let bytes = List::from_vec(Vec::from_slice(alloc, text.as_bytes())?);
+    let bytes = List::from_vec(Vec::from_slice(alloc, text)?);
     let mut source = MemSource::make(bytes, 1, reads);
     let mut sink = MemSink::make(alloc, room, writes)?;
     let mut folder = MemFolder::make(alloc, List::new(alloc), List::new(alloc));
@@ -270,7 +283,15 @@ fn each_write_may_fail(rt: HostRuntime) -> Result<(), Fail> {
 #[test]
 fn tells_its_usage(rt: HostRuntime) -> Result<(), Fail> {
     let usage = "usage: agreec check -\n";
-    let rows: [&[&str]; 4] = [&[], &["check"], &["check", "x.aadl"], &["check", "-", "-"]];
+    let rows: [&[&str]; 7] = [
+        &[],
+        &["check"],
+        &["check", "x.aadl"],
+        &["check", "-", "-"],
+        &["print"],
+        &["print", "x"],
+        &["print", "-", "-"],
+    ];
     for words in &rows {
         expect(
             &rt,
@@ -285,17 +306,173 @@ fn tells_its_usage(rt: HostRuntime) -> Result<(), Fail> {
     Ok(())
 }
 
+fn refuses_what_is_too_long_for<R: Threads + Wait + Abort + Sync>(
+    rt: &R,
+    alloc: Global,
+    words: &[&str],
+) -> Result<(), Fail> {
+    let text = " ".repeat(alloc, 4_194_305)?;
+    let wanted = ("refused - TooLong\n", Status::ModelRefused, 0);
+    expect(rt, alloc, words, text.as_str(), (0, 0), 64, wanted)
+}
+
 #[test]
-fn refuses_what_is_too_long(rt: HostRuntime) -> Result<(), Fail> {
-    let text = " ".repeat(rt.alloc(), 4_194_305)?;
-    let output = "refused - TooLong\n";
-    expect(
-        &rt,
-        rt.alloc(),
-        &["check", "-"],
-        text.as_str(),
-        (0, 0),
-        64,
-        (output, Status::ModelRefused, 0),
-    )
+fn checks_nothing_too_long(rt: HostRuntime) -> Result<(), Fail> {
+    refuses_what_is_too_long_for(&rt, rt.alloc(), &["check", "-"])
+}
+
+#[test]
+fn prints_nothing_too_long(rt: HostRuntime) -> Result<(), Fail> {
+    refuses_what_is_too_long_for(&rt, rt.alloc(), &["print", "-"])
+}
+
+const DEVICE: &str = "package Q
+public
+with Base_Types; -- c
+device D features p : out event data port Base_Types::Integer; properties Period => 10 ms; end D;
+end Q;
+";
+
+const PRINTED_DEVICE: &str = "package Q
+public
+with Base_Types;
+device D
+features
+p : out event data port Base_Types::Integer;
+end D;
+end Q;
+";
+
+const PARTS: &str = "PACKAGE A::B public with C, D :: E; data Whole end Whole; SYSTEM s end S;
+thread T features f : requires bus access X; i : in event port; flows none; annex emv2 {** x **}; end T;
+device implementation D.i subcomponents t : thread A::B::T.i {p => (1);}; m : memory M; n : abstract; connections
+c : port t.i -> o {Timing => immediate;}; d : port q -> t . r; e : parameter f -> g; end d.I; end a::b; package E public end E;";
+
+const PRINTED_PARTS: &str = "package A::B
+public
+with C;
+with D::E;
+system s
+end s;
+thread T
+features
+i : in event port;
+end T;
+device implementation D.i
+subcomponents
+t : thread A::B::T.i;
+n : abstract;
+connections
+c : port t.i -> o;
+d : port q -> t.r;
+end D.i;
+end A::B;
+package E
+public
+end E;
+";
+
+#[test]
+fn prints_what_it_reads(rt: HostRuntime) -> Result<(), Fail> {
+    let print = ["print", "-"];
+    let rows = [
+        ("", ""),
+        (" -- nothing\n", ""),
+        (DEVICE, PRINTED_DEVICE),
+        (PRINTED_DEVICE, PRINTED_DEVICE),
+        (PARTS, PRINTED_PARTS),
+        (PRINTED_PARTS, PRINTED_PARTS),
+    ];
+    for (text, output) in &rows {
+        let wanted = (*output, Status::AllGood, 0);
+        expect(&rt, rt.alloc(), &print, *text, (0, 0), 4096, wanted)?;
+    }
+    Ok(())
+}
+
+#[test]
+fn refuses_to_print(rt: HostRuntime) -> Result<(), Fail> {
+    let print = ["print", "-"];
+    let rows = [
+        // Rules of tokens, which come before those of the grammar.
+        ("package P\npublic\n\u{1}end P;", "3:1 BadByte"),
+        ("package P private \u{1}", "1:19 BadByte"),
+        ("package P\npublic\n\"abc\nend P;", "3:1 OpenString"),
+        (
+            "package P\npublic\nannex agree {** x\nend P;",
+            "3:13 OpenAnnex",
+        ),
+        // Rules of the grammar.
+        (
+            "package Q\npublic\ndevice D modes m : mode; end D;\nend Q;",
+            "3:10 Unsupported modes",
+        ),
+        ("package P\nPRIVATE\nend P;", "2:1 Unsupported private"),
+        (
+            "package P public system implementation S.i connections c : port a <-> b;",
+            "1:67 Unsupported <->",
+        ),
+        (
+            "package P\npublic\nsystem S features x : in port;",
+            "3:26 Expected",
+        ),
+        ("package P\npublic\n", "3:1 Expected"),
+        ("package Q\npublic\ndevice D end E;\nend Q;", "3:14 EndName"),
+        (
+            "package P\npublic\nsystem S\nfeatures none;\nfeatures none;\nend S;\nend P;",
+            "5:1 Twice",
+        ),
+        (
+            "package P\npublic\nsystem implementation S.i\nconnections\nc : port a -> b {Timing => delayed;};\nend S.i;\nend P;",
+            "5:28 Unsupported delayed",
+        ),
+        // The first annex, once the grammar is kept.
+        (PACKAGE, "9:13 NotBuilt"),
+        (
+            "package P\npublic\nannex other {** **};\nannex AGREE {** **};\nend P;",
+            "4:13 NotBuilt",
+        ),
+        (
+            "package P\npublic\nannex agree {** **};\nend Q;",
+            "4:5 EndName",
+        ),
+    ];
+    for (text, refusal) in &rows {
+        let output = format!(in rt.alloc(); "refused -:{refusal}\n")?;
+        let wanted = (output.as_str(), Status::ModelRefused, 0);
+        expect(&rt, rt.alloc(), &print, *text, (0, 0), 4096, wanted)?;
+    }
+    Ok(())
+}
+
+#[test]
+fn prints_no_long_name_and_no_bad_text(rt: HostRuntime) -> Result<(), Fail> {
+    let print = ["print", "-"];
+    let name = "n".repeat(rt.alloc(), 256)?;
+    let text = format!(in rt.alloc(); "package {name}")?;
+    let wanted = ("refused -:1:9 LongName\n", Status::ModelRefused, 0);
+    expect(&rt, rt.alloc(), &print, text.as_str(), (0, 0), 64, wanted)?;
+    let bytes = b"package P\npublic -- \xff\nend P;";
+    let wanted = ("refused -:2:11 NotUtf8\n", Status::ModelRefused, 0);
+    expect_of_bytes(&rt, rt.alloc(), &print, bytes, (0, 0), 64, wanted)
+}
+
+#[test]
+fn a_print_ends_where_the_outside_fails(rt: HostRuntime) -> Result<(), Fail> {
+    let print = ["print", "-"];
+    let front = "package Q\npub";
+    let rows = [
+        (DEVICE, (3, 0), 4096, ("", Status::ReadFault, 0)),
+        (DEVICE, (0, 1), 4096, ("", Status::WriteFault, 0)),
+        (DEVICE, (0, 2), 13, (front, Status::WriteFault, 0)),
+        (DEVICE, (0, 2), 4096, (PRINTED_DEVICE, Status::AllGood, 0)),
+        (PACKAGE, (0, 1), 4096, ("", Status::WriteFault, 0)),
+        (PACKAGE, (0, 0), 9, ("refused -", Status::WriteFault, 0)),
+        ("", (0, 1), 4096, ("", Status::AllGood, 0)),
+        ("", (1, 0), 4096, ("", Status::ReadFault, 0)),
+    ];
+    for (text, failing, room, wanted) in &rows {
+        expect(&rt, rt.alloc(), &print, *text, *failing, *room, *wanted)?;
+    }
+    Ok(())
 }

@@ -1,5 +1,5 @@
 //! The top call.
-ghost use Rattle.std.specs.Prelude.{◌≡◌, ◌≢◌, ◌↔◌, ◌⊎◌, ◌≤◌, [], IfOk, IsTrue, length};
+ghost use Rattle.std.specs.Prelude.{◌≡◌, ◌≢◌, ◌⊎◌, ◌≤◌, IfOk, length};
 ghost use Rattle.ag_base.specs.declared.place.Place.{Place};
 ghost use Rattle.ag_small.specs.declared.package.Package.{Package};
 ghost use Rattle.ag_small.specs.Reads.{Reads};
@@ -7,13 +7,17 @@ ghost use Rattle.ag_small.specs.Places.{IsPlaceIn};
 ghost use Rattle.ag_report.specs.Texts.{refused};
 ghost use Rattle.ag_base.specs.Outside.{Rose};
 ghost use Rattle.ag_base.specs.declared.status.Status.TheVariants as statuses;
-ghost use Rattle.ag_top.specs.Commands.{Grows};
-ghost use Rattle.ag_top.specs.Stages.{EndsByVerdicts, IsEndOfText, Partly};
-ghost use Rattle.ag_top.specs.Outcome.{IsCheck, IsUsage, IsRefusal, IsAnswer, IsUnfinished, IsNothing, IsTextAnswer, IsTextRefused, IsTextCut, IsTextBroken, IsBroken};
+ghost use Rattle.ag_top.specs.Stages.{EndsByVerdicts, IsEndOfText};
+ghost use Rattle.ag_top.specs.Outcome.{IsUsage, IsRefusal, IsAnswer, IsUnfinished, IsNothing, IsTextAnswer, IsTextRefused, IsTextCut, IsTextBroken, IsBroken};
+ghost use Rattle.ag_top.specs.Printing.{IsPrintRefusal, IsPrintAnswer};
+ghost use Rattle.ag_top.specs.Words.{IsCommand};
 
 use crate::check::{Done, check, ended};
+use crate::print::print_text;
 use crate::read::{TextFault, read_text};
 use crate::say::say;
+use crate::tell::tell;
+use crate::words::{Order, order_of};
 use ag_base::{Bytes, Failed, Folder, OutOfMemory, Sink, Source, Status, Text};
 use ag_report::refused_line;
 use ag_small::{ReadFault, place_of_refusal, read};
@@ -26,30 +30,6 @@ const USAGE: &str = "usage: agreec check -\n";
 
 /// What is written of a text of more than 4,194,304 bytes.
 const TOO_LONG: &str = "refused - TooLong\n";
-
-/// Whether the words are `check -`.
-fn is_check(words: &[Text]) -> bool
-    ensures { IsTrue result ↔ IsCheck words.now }
-{
-    match words {
-        [command, name] => command.as_str() == "check" && name.as_str() == "-",
-        _ => false,
-    }
-}
-
-/// Writes one text, and ends without an entry.
-fn refuse<K: Sink>(alloc: Global, sink: &mut K, text: &str, status: Status) -> Done
-    ensures ends { (result.status ≡ status) ⊎ (result.status ≡ statuses.WriteFault) }
-    ensures written { (result.status ≡ statuses.WriteFault → ⊥) → Grows (K.written sink.old) (K.written sink.new) text.now }
-    ensures partly { (status ≡ statuses.WriteFault → ⊥) → result.status ≡ statuses.WriteFault → Partly text.now (K.written sink.old) (K.written sink.new) }
-    ensures write { (status ≡ statuses.WriteFault → ⊥) → result.status ≡ statuses.WriteFault → Rose (K.faults sink.old) (K.faults sink.new) }
-    ensures history { result.history ≡ [] }
-{
-    match say(sink, text.as_bytes()) {
-        Ok(()) => ended(alloc, status),
-        Err(_) => ended(alloc, Status::WriteFault),
-    }
-}
 
 /// The line that tells where a text departs from the grammar.
 fn departure(alloc: Global, text: &[u8]) -> Result<Bytes, OutOfMemory>
@@ -109,34 +89,37 @@ pub fn agree<R: Threads + Wait + Sync, S: Source, K: Sink, F: Folder>(
     sink: &mut K,
     _folder: &mut F,
 ) -> Done
-    // The words are another command.
+    // The words are no command.
     ensures usage { result.status ≡ statuses.Usage → IsUsage words.now result.history (K.written sink.old) (K.written sink.new) }
 
-    // What was read is too long, or is no package of the grammar.
-    ensures refused { result.status ≡ statuses.ModelRefused → IsRefusal words.now (S.left source.old) result.history (K.written sink.old) (K.written sink.new) }
+    // What was read is too long, or is no package of the check's grammar, or its print is refused.
+    ensures refused { result.status ≡ statuses.ModelRefused → IsRefusal words.now (S.left source.old) result.history (K.written sink.old) (K.written sink.new) ⊎ IsPrintRefusal words.now (S.left source.old) result.history (K.written sink.old) (K.written sink.new) }
 
-    // The headline, for a check.
-    ensures answer { EndsByVerdicts result.status → IsAnswer words.now (S.left source.old) result.history result.status (K.written sink.old) (K.written sink.new) }
+    // The headline, for a check; the canonical text, for a print.
+    ensures answer { EndsByVerdicts result.status → IsAnswer words.now (S.left source.old) result.history result.status (K.written sink.old) (K.written sink.new) ⊎ IsPrintAnswer words.now (S.left source.old) result.history result.status (K.written sink.old) (K.written sink.new) }
 
     // A fault is told only where its count rose.
-    ensures read_fault { result.status ≡ statuses.ReadFault → IsCheck words.now × Rose (S.faults source.old) (S.faults source.new) × IsNothing result.history (K.written sink.old) (K.written sink.new) }
+    ensures read_fault { result.status ≡ statuses.ReadFault → IsCommand words.now × Rose (S.faults source.old) (S.faults source.new) × IsNothing result.history (K.written sink.old) (K.written sink.new) }
     ensures write_fault { result.status ≡ statuses.WriteFault → Rose (K.faults sink.old) (K.faults sink.new) }
 
     // Of what would have been written the first bytes were.
     ensures broken { result.status ≡ statuses.WriteFault → IsBroken words.now (S.left source.old) result.history (K.written sink.old) (K.written sink.new) }
 
-    // For want of memory nothing was written, or the replies to the first commands.
+    // For want of memory nothing was written, or, of a check, the replies to the first commands.
     ensures memory { result.status ≡ statuses.OutOfMemory → IsNothing result.history (K.written sink.old) (K.written sink.new) ⊎ IsUnfinished words.now (S.left source.old) result.history (K.written sink.old) (K.written sink.new) }
 
     ensures no_session { result.status ≢ statuses.SessionRefused }
 {
-    if !is_check(words) {
-        return refuse(alloc, sink, USAGE, Status::Usage);
-    }
+    let Some(order) = order_of(words) else {
+        return tell(alloc, sink, USAGE.as_bytes(), Status::Usage);
+    };
     match read_text(alloc, source) {
-        Err(TextFault::TooLong) => refuse(alloc, sink, TOO_LONG, Status::ModelRefused),
+        Err(TextFault::TooLong) => tell(alloc, sink, TOO_LONG.as_bytes(), Status::ModelRefused),
         Err(TextFault::Failed) => ended(alloc, Status::ReadFault),
         Err(TextFault::OutOfMemory) => ended(alloc, Status::OutOfMemory),
-        Ok(text) => check_text(alloc, text.as_slice(), sink),
+        Ok(text) => match order {
+            Order::Check => check_text(alloc, text.as_slice(), sink),
+            Order::Print => print_text(alloc, text.as_slice(), sink),
+        },
     }
 }
