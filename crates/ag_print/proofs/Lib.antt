@@ -15,6 +15,7 @@ pub mod RereadingBack
 pub mod RereadingRules
 pub mod RereadingKept
 pub mod RereadingAgain
+pub mod RereadingPrintable
 pub mod RereadingWhole
 pub mod Writing
 pub mod FirstAnnex

@@ -4,9 +4,13 @@ use Rattle.std.specs.Prelude.{IsTrue}
 use Rattle.std.specs.List.{flat_map, list_all}
 use Rattle.ag_grammar.specs.declared.grammar.Step.{Step}
 use Rattle.ag_grammar.specs.declared.grammar.Step.TheVariants.{Expand, Shift}
+use Rattle.ag_lex.specs.declared.token.Language.{Language}
+use Rattle.ag_lex.specs.declared.token.Language.TheVariants.{Aadl}
 use Rattle.ag_lex.specs.declared.token.Token.{Token}
+use Rattle.ag_lex.specs.Tokens.{AreTokens}
 use Rattle.ag_aadl.specs.declared.marked.Marked.{Marked}
 use Rattle.ag_aadl.specs.declared.packages.Package.{Package}
+use Rattle.ag_aadl.specs.Files.{IsFile}
 use Rattle.ag_aadl.specs.Marked.{marked}
 use Rattle.ag_aadl.specs.Meaning.{packages_of}
 use Rattle.ag_aadl.specs.Rules.{start}
@@ -15,11 +19,13 @@ use Rattle.ag_print.specs.Canonical.{Spelled, canonical_text}
 use Rattle.ag_print.specs.Layout.{Word, word_at}
 use Rattle.ag_print.specs.Printable.{are_printable}
 use Rattle.ag_print.specs.Rereading.{StandAs, Declare, IsReread}
+use Rattle.ag_print.specs.Same.{bare_package, SamePackages}
 use Rattle.ag_print.specs.Spelling.{marks_of, canonical_words, marks_of_words, IsReadCanonical}
 use Rattle.ag_print.proofs.RereadingSeen.{Seen, seen_of, packages_in, packages_seen, two}
 use Rattle.ag_print.proofs.RereadingLines.{seen, package_words, flat_packages}
 use Rattle.ag_print.proofs.RereadingAgain.{same_text}
 use Rattle.ag_print.proofs.RereadingBack.{packages_back}
+use Rattle.ag_print.proofs.RereadingPrintable.{found_printable}
 use Rattle.ag_print.proofs.RereadingRules.{told, names_hold, sections_hold, is_quiet, obeys}
 use Rattle.ag_print.proofs.RereadingKept.{names_kept, sections_kept, timing_kept}
 
@@ -88,4 +94,40 @@ text_rereads spells file ps h =
     let bytes = canonical_text ps in
     let ms = marked (terminals_of bytes read.0) read.0 read.1 in
     let declare = rereads ps h bytes read.0 read.1 read.2.words read.2.marks in
-    (read.0, packages_of bytes ms, record { kept = read.2.kept; read = record { steps = read.1; text = read.2.text; obeyed = declare.0; told = refl }; same = declare.1; again = same_text (packages_of bytes ms) ps declare.1 })
+    let are : map (seen_of bytes) ms ≡ map seen (flat_map package_words ps) =
+    ap (map (seen_of bytes)) (marked_so bytes read.1 read.0 (canonical_words ps) read.2.words read.2.marks)
+    ∙ words_seen bytes read.0 (canonical_words ps) read.2.words ∙ ap (map seen) (flat_packages ps) in (
+      read.0,
+      packages_of bytes ms,
+      record {
+        kept = read.2.kept;
+        read = record { steps = read.1; text = read.2.text; obeyed = declare.0; told = refl };
+        same = declare.1;
+        printable = found_printable bytes ms ps h are declare.1;
+        again = same_text (packages_of bytes ms) ps declare.1;
+      },
+    )
+
+-- ---- one text, one list of packages
+
+abbrev pub CanonicalRereads : Type 0
+CanonicalRereads = (file : ℕ) (packages : List Package) → IsTrue (are_printable packages) → (tokens : List Token) × (found : List Package) × IsReread file packages tokens found
+
+-- what the laws of reading say
+abbrev pub OneTokens : Type 0
+OneTokens = (l : Language) (file : ℕ) (before text : List ℕ) (tokens others : List Token) → AreTokens l file before text tokens → AreTokens l file before text others → tokens ≡ others
+
+abbrev pub OneFile : Type 0
+OneFile = (bytes : List ℕ) (tokens : List Token) (packages others : List Package) → IsFile bytes tokens packages → IsFile bytes tokens others → packages ≡ others
+
+pub same_packages : CanonicalRereads → OneTokens → OneFile → (packages others : List Package) → IsTrue (are_printable packages) → IsTrue (are_printable others)
+    → canonical_text packages ≡ canonical_text others → SamePackages packages others
+same_packages rereads one_tokens one_file ps qs h k e =
+    let first = rereads 0 ps h in
+    let second = rereads 0 qs k in
+    let text = canonical_text ps in
+    let kept : AreTokens Aadl 0 [] text second.0 = subst (λ (z : List ℕ). AreTokens Aadl 0 [] z second.0) (sym e) second.2.kept.read in
+    let read : IsFile text second.0 second.1 = subst (λ (z : List ℕ). IsFile z second.0 second.1) (sym e) second.2.read in
+    let tokens : second.0 ≡ first.0 = one_tokens Aadl 0 [] text second.0 first.0 kept first.2.kept.read in
+    let found : first.1 ≡ second.1 = one_file text first.0 first.1 second.1 first.2.read (subst (λ (z : List Token). IsFile text z second.1) tokens read) in
+    sym first.2.same ∙ ap (map bare_package) found ∙ second.2.same

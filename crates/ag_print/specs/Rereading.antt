@@ -1,5 +1,5 @@
 -- What is read from the words of packages.
-use Rattle.std.specs.Prelude.{◌≡◌, ℕ, List, [], map}
+use Rattle.std.specs.Prelude.{◌≡◌, ℕ, List, [], map, IsTrue}
 use Rattle.ag_lex.specs.declared.token.Language.TheVariants.{Aadl}
 use Rattle.ag_lex.specs.declared.token.Token.{Token}
 use Rattle.ag_lex.specs.Answers.{AreKept}
@@ -10,6 +10,7 @@ use Rattle.ag_aadl.specs.Meaning.{packages_of}
 use Rattle.ag_aadl.specs.Rules.{Obeys}
 use Rattle.ag_print.specs.Canonical.{Spelled, canonical_text}
 use Rattle.ag_print.specs.Layout.{word_at}
+use Rattle.ag_print.specs.Printable.{are_printable}
 use Rattle.ag_print.specs.Same.{SamePackages}
 
 -- the words stand in a text as these tokens
@@ -20,9 +21,10 @@ StandAs bytes tokens ws = map (word_at bytes) tokens ≡ map (λ w. w.word) ws
 abbrev pub Declare : List ℕ → List Marked → List Package → Type 0
 Declare bytes ms packages = Obeys bytes ms × SamePackages (packages_of bytes ms) packages
 
--- The canonical text of packages as a file: it breaks no rule, and the packages that it declares are the same and have the same text.
+-- The canonical text of packages as a file: it breaks no rule, and the packages that it declares are the same, are printable and have the same text.
 pub record IsReread (file : ℕ) (packages : List Package) (tokens : List Token) (found : List Package) : Type 0 where
   pub kept : AreKept Aadl file [] (canonical_text packages) tokens
   pub read : IsFile (canonical_text packages) tokens found
   pub same : SamePackages found packages
+  pub printable : IsTrue (are_printable found)
   pub again : canonical_text found ≡ canonical_text packages

@@ -22,7 +22,7 @@ use ag_lex::{names_end, pieces_keep, symbols_end};
 pub use annexes::first_annex;
 pub use laws::{canonical_spells, files_are_printable};
 pub use print::print_file;
-pub use rereading::{canonical_rereads, words_reread};
+pub use rereading::{canonical_rereads, one_text, words_reread};
 pub use symbol::Symbol;
 pub use writer::Writer;
 
