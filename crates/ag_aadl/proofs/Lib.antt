@@ -5,3 +5,7 @@ pub mod Shifting
 pub mod Breaking
 pub mod Refusals
 pub mod Answering
+pub mod Broken
+pub mod Once
+pub mod Ends
+pub mod Delays

@@ -12,3 +12,4 @@ pub mod Rules
 pub mod Unsupported
 pub mod Meaning
 pub mod Files
+pub mod Plainly

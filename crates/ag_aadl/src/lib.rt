@@ -23,6 +23,7 @@ mod find;
 mod foreign;
 mod idents;
 mod items;
+pub mod laws;
 pub mod marked;
 pub mod marks;
 pub mod names;
@@ -44,6 +45,7 @@ use ag_grammar::{one_derivation, one_place, read};
 use ag_lex::Token;
 use files::first_wrong;
 use items::packages_of;
+pub use laws::{ends_named, never_delayed, sections_once};
 use marked::{Marked, marked_tokens};
 pub use packages::{
     Body, Category, End, Frame, Ident, Item, Package, Path, Port, PortKind, Sub, Wire,
