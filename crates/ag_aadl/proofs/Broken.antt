@@ -1,5 +1,5 @@
 -- The marked token at which a rule is broken first, and what each rule refuses there.
-use Rattle.std.proofs.Common.{◌≡◌, ◌⊎◌, inl, inr, ℕ, Bool, true, false, List, [], ◌∷◌, ◌++◌, Result, Ok, Err, if◌then◌else◌, not, ◌==◌, ◌&&◌, codes, refl, sym, ap, ◌∙◌, arith}
+use Rattle.std.proofs.Common.{◌≡◌, ◌⊎◌, inl, inr, ℕ, Bool, true, false, List, [], ◌∷◌, ◌++◌, Result, Ok, Err, if◌then◌else◌, not, ◌==◌, ◌&&◌, codes, refl, sym, ap, ◌∙◌}
 use Rattle.std.specs.List.{list_any}
 use Rattle.ag_base.specs.declared.place.Refusal.{Refusal}
 use Rattle.ag_base.specs.declared.place.Rule.TheVariants.{EndName, Twice, Unsupported}
@@ -11,7 +11,7 @@ use Rattle.ag_aadl.specs.declared.timing.Watched.TheVariants as watched
 use Rattle.ag_aadl.specs.Marked.{own}
 use Rattle.ag_aadl.specs.Marks.{unmarked}
 use Rattle.ag_aadl.specs.Plainly.{is_border}
-use Rattle.ag_aadl.specs.Rules.{refused_at, is_misnamed, misnamed, names_after, obey_names, is_section, obey_sections, obey_timing, timing_inside, is_nowhere, region_of, watched_after, value_after, all_obeyed, obey, run, run_from}
+use Rattle.ag_aadl.specs.Rules.{refused_at, is_misnamed, misnamed, names_after, obey_names, is_section, obey_sections, obey_timing, is_nowhere, region_of, watched_after, value_after, all_obeyed, obey, run, run_from}
 use Rattle.ag_aadl.specs.Terminals.{name}
 use Rattle.ag_aadl.specs.Unsupported.{delayed}
 use Rattle.ag_aadl.specs.Words.{same}

@@ -1,19 +1,14 @@
 -- The rule on timings, by what stands where.
-use Rattle.std.proofs.Common.{◌≡◌, ◌⊎◌, inl, inr, ℕ, Bool, true, false, not, ◌==◌, ◌&&◌, ◌||◌, List, [], ◌∷◌, ◌++◌, Result, Ok, Err, codes, length, map, if◌then◌else◌, refl, sym, ap, subst, ◌∙◌, append_assoc, arith}
+use Rattle.std.proofs.Common.{◌≡◌, ◌⊎◌, inl, inr, ℕ, Bool, true, false, not, ◌==◌, ◌&&◌, ◌||◌, List, [], ◌∷◌, ◌++◌, Result, Ok, Err, codes, length, map, if◌then◌else◌, refl, sym, ap, subst, ◌∙◌, append_assoc}
 use Rattle.std.specs.Char.{to_ascii_lowercase}
-use Rattle.std.specs.List.{list_any}
-use Rattle.std.proofs.lemmas.Bool.{cases_Bool, both_ways, or_cases, or_left, or_right, or_parts, or_from, and_parts, and_from, not_from_false, not_from_true, eqb-true, eqb-false, eq-eqb, not-true, not-false, false_from_ne_true, true_from_ne_false}
+use Rattle.std.proofs.lemmas.Bool.{both_ways, or_cases, or_left, or_right, or_parts, or_from, and_parts, and_from, not_from_false, not_from_true, eqb-true, eqb-false, eq-eqb, not-true, not-false, false_from_ne_true}
 use Rattle.std.proofs.lemmas.List.{append-nil}
 use Rattle.std.proofs.lemmas.List.Folds.{list_any-append}
 use Rattle.std.proofs.lemmas.Slice.Eq.{bytes_eq-Decides}
 use Rattle.ag_base.specs.declared.place.Refusal.{Refusal}
-use Rattle.ag_base.specs.declared.place.Rule.{Rule}
 use Rattle.ag_base.specs.declared.place.Rule.TheVariants.{EndName, Twice, Unsupported}
-use Rattle.ag_lex.specs.declared.token.Token.{Token}
 use Rattle.ag_aadl.specs.declared.marked.Marked.{Marked}
-use Rattle.ag_aadl.specs.declared.names.Names.{Names}
 use Rattle.ag_aadl.specs.declared.rules.Context.{Context}
-use Rattle.ag_aadl.specs.declared.timing.Region.{Region}
 use Rattle.ag_aadl.specs.declared.timing.Region.TheVariants as region
 use Rattle.ag_aadl.specs.declared.timing.Timing.{Timing}
 use Rattle.ag_aadl.specs.declared.timing.Watched.{Watched}
@@ -21,11 +16,11 @@ use Rattle.ag_aadl.specs.declared.timing.Watched.TheVariants as watched
 use Rattle.ag_aadl.specs.Marked.{own}
 use Rattle.ag_aadl.specs.Marks.{unmarked}
 use Rattle.ag_aadl.specs.Plainly.{is_word, ends_in, has_marked, has_name, is_spot, IsForeign, IsTimed, IsDelayed, IsFirstDelayed}
-use Rattle.ag_aadl.specs.Rules.{refused_at, region_of, is_connection, is_nowhere, is_elsewhere, is_set_name, is_timing, watched_name, watched_after, value_after, timing_inside, obey_timing, is_misnamed, misnamed, names_after, is_section, obey_names, obey_sections, all_obeyed, obey, run, run_from, start, Obeys}
+use Rattle.ag_aadl.specs.Rules.{refused_at, region_of, is_connection, is_nowhere, is_elsewhere, is_set_name, is_timing, watched_after, value_after, timing_inside, obey_timing, is_misnamed, misnamed, names_after, obey_names, obey_sections, all_obeyed, obey, run, run_from, start, Obeys}
 use Rattle.ag_aadl.specs.Terminals.{name, colons, gives}
 use Rattle.ag_aadl.specs.Unsupported.{delayed}
 use Rattle.ag_aadl.specs.Words.{same}
-use Rattle.ag_aadl.proofs.Broken.{Broken, broken, breaks, front-obeys, all-ok, all-err, timing-said, name-rule, section-rule}
+use Rattle.ag_aadl.proofs.Broken.{broken, breaks, front-obeys, all-ok, all-err, timing-said, name-rule, section-rule}
 
 -- what is known of a timing behind a token, and behind some
 abbrev inside : List ℕ → Timing → Marked → Timing

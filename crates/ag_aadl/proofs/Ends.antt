@@ -1,10 +1,9 @@
 -- The rule on the names behind `end`, by what stands where.
-use Rattle.std.proofs.Common.{◌≡◌, ◌⊎◌, inl, inr, ℕ, Bool, true, false, not, ◌==◌, ◌&&◌, ◌||◌, List, [], ◌∷◌, ◌++◌, Result, Ok, Err, if◌then◌else◌, refl, sym, ap, subst, ◌∙◌, append_assoc, arith}
+use Rattle.std.proofs.Common.{◌≡◌, inl, inr, ℕ, Bool, true, false, not, ◌==◌, ◌&&◌, ◌||◌, List, [], ◌∷◌, ◌++◌, Result, Ok, Err, if◌then◌else◌, refl, sym, ap, subst, ◌∙◌, append_assoc}
 use Rattle.std.specs.List.{list_any}
-use Rattle.std.proofs.lemmas.Bool.{cases_Bool, both_ways, or_cases, or_left, or_right, or_parts, or_from, and_parts, and_from, not_from_false, eqb-true, eq-eqb, not-true, false_from_ne_true, true_from_ne_false}
+use Rattle.std.proofs.lemmas.Bool.{both_ways, or_cases, or_left, or_right, or_parts, or_from, and_parts, and_from, not_from_false, eqb-true, eq-eqb, not-true, true_from_ne_false}
 use Rattle.std.proofs.lemmas.List.{append-nil}
 use Rattle.ag_base.specs.declared.place.Refusal.{Refusal}
-use Rattle.ag_base.specs.declared.place.Rule.{Rule}
 use Rattle.ag_base.specs.declared.place.Rule.TheVariants.{EndName, Twice, Unsupported}
 use Rattle.ag_lex.specs.declared.token.Token.{Token}
 use Rattle.ag_aadl.specs.declared.marked.Marked.{Marked}
@@ -15,9 +14,9 @@ use Rattle.ag_aadl.specs.declared.rules.Context.{Context}
 use Rattle.ag_aadl.specs.Marked.{first_of}
 use Rattle.ag_aadl.specs.Marks.{end_name_mark, close_mark}
 use Rattle.ag_aadl.specs.Plainly.{from_last, having, is_in_name, name_at, name_behind, package_name, declared_name, end_name, EndsWrongly, IsFirstMisnamed}
-use Rattle.ag_aadl.specs.Rules.{refused_at, same_names, is_head, is_end, naming_after, package_after, declaration_after, end_after, names_after, is_misnamed, misnamed, obey_names, obey_sections, obey_timing, all_obeyed, obey, run, run_from, start, Obeys}
+use Rattle.ag_aadl.specs.Rules.{refused_at, same_names, is_head, is_end, package_after, end_after, names_after, is_misnamed, misnamed, obey_names, obey_sections, obey_timing, all_obeyed, obey, run, run_from, start, Obeys}
 use Rattle.ag_aadl.specs.Unsupported.{delayed}
-use Rattle.ag_aadl.proofs.Broken.{Broken, broken, breaks, front-obeys, all-ok, all-err, name-said, section-rule, timing-rule}
+use Rattle.ag_aadl.proofs.Broken.{broken, breaks, front-obeys, all-ok, all-err, name-said, section-rule, timing-rule}
 
 -- what is known of names behind some tokens
 abbrev names-over : Names → List Marked → Names

@@ -9,3 +9,4 @@ pub mod Broken
 pub mod Once
 pub mod Ends
 pub mod Delays
+pub mod Shapes

@@ -1,16 +1,14 @@
 -- The rule on sections, by what stands where.
-use Rattle.std.proofs.Common.{◌≡◌, ◌⊎◌, inl, inr, ℕ, Bool, true, false, ◌==◌, ◌||◌, List, [], ◌∷◌, ◌++◌, Result, Ok, Err, if◌then◌else◌, refl, sym, ap, subst, ◌∙◌, append_assoc, arith}
+use Rattle.std.proofs.Common.{◌≡◌, ◌⊎◌, inl, inr, ℕ, Bool, true, false, ◌==◌, ◌||◌, List, [], ◌∷◌, ◌++◌, Result, Ok, Err, if◌then◌else◌, refl, sym, ap, subst, ◌∙◌, append_assoc}
 use Rattle.std.specs.List.{list_any}
-use Rattle.std.proofs.lemmas.Bool.{cases_Bool, both_ways, or_cases, or_left, or_right, or_parts, or_from, eqb-true, eq-eqb, true_from_ne_false}
+use Rattle.std.proofs.lemmas.Bool.{both_ways, or_cases, or_right, or_parts, or_from, eqb-true, eq-eqb, true_from_ne_false}
 use Rattle.ag_base.specs.declared.place.Refusal.{Refusal}
-use Rattle.ag_base.specs.declared.place.Rule.{Rule}
 use Rattle.ag_base.specs.declared.place.Rule.TheVariants.{EndName, Twice, Unsupported}
 use Rattle.ag_aadl.specs.declared.marked.Marked.{Marked}
 use Rattle.ag_aadl.specs.declared.names.Names.{Names}
 use Rattle.ag_aadl.specs.declared.rules.Context.{Context}
-use Rattle.ag_aadl.specs.declared.timing.Timing.{Timing}
 use Rattle.ag_aadl.specs.Plainly.{is_border, has_border, HasBegun, IsFirstTwice}
-use Rattle.ag_aadl.specs.Rules.{refused_at, is_misnamed, misnamed, names_after, obey_names, is_section, obey_sections, obey_timing, timing_inside, is_nowhere, all_obeyed, obey, run, run_from, start, Obeys}
+use Rattle.ag_aadl.specs.Rules.{refused_at, is_misnamed, misnamed, names_after, obey_names, is_section, obey_sections, obey_timing, all_obeyed, obey, run, run_from, start, Obeys}
 use Rattle.ag_aadl.specs.Unsupported.{delayed}
 use Rattle.ag_aadl.proofs.Broken.{Broken, broken, breaks, front-obeys, all-ok, all-err, section-said, name-rule, timing-rule}
 

@@ -70,15 +70,23 @@ name_behind mark (m ∷ ms) = if m.mark == mark then name_at ms else []
 abbrev pub package_name : List Marked → List Token
 package_name ms = name_behind package_mark (from_last (λ k. k == package_mark) ms)
 
+-- the mark of a name that a declaration declares
+abbrev pub is_declared : ℕ → Bool
+is_declared mark = mark == owner_mark || mark == declared_mark
+
+-- the mark of a name behind `end` of a declaration
+abbrev pub is_ending : ℕ → Bool
+is_ending mark = mark == end_owner_mark || mark == end_name_mark
+
 -- the name or the two names of the last declaration
 abbrev pub declared_name : List Marked → List Token
-declared_name ms = having (λ k. k == owner_mark || k == declared_mark) (from_last (λ k. k == item_mark) ms)
+declared_name ms = having is_declared (from_last (λ k. k == item_mark) ms)
 
 -- the name behind the last `end`: of a package right behind it, or of a declaration
 abbrev pub end_name : List Marked → List Token
 end_name ms =
     let last = from_last (λ k. k == item_mark || k == end_mark) ms in
-    name_behind end_mark last ++ having (λ k. k == end_owner_mark || k == end_name_mark) last
+    name_behind end_mark last ++ having is_ending last
 
 -- The tokens end with the end of a declaration or of a package, and the name there is another than the declared one.
 abbrev pub EndsWrongly : List ℕ → List Marked → Marked → Type 0

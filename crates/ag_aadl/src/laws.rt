@@ -1,10 +1,12 @@
 //! The rules on packages once more, by what stands where among the marked tokens.
-ghost use Rattle.std.specs.Prelude.{◌≡◌, ◌++◌, ℕ, List, [], ◌∷◌, true, Err};
+ghost use Rattle.std.specs.Prelude.{◌≡◌, ◌++◌, ℕ, List, [], ◌∷◌, true, false, Err};
+ghost use Rattle.std.specs.List.{list_all};
 ghost use Rattle.ag_base.specs.declared.place.Refusal.{Refusal};
 ghost use Rattle.ag_base.specs.declared.place.Rule.TheVariants.{EndName, Twice, Unsupported};
 ghost use Rattle.ag_aadl.specs.declared.marked.Marked.{Marked};
-ghost use Rattle.ag_aadl.specs.Marks.{end_name_mark, close_mark};
-ghost use Rattle.ag_aadl.specs.Plainly.{has_border, IsFirstTwice, package_name, declared_name, end_name, IsFirstMisnamed, IsDelayed, IsFirstDelayed};
+ghost use Rattle.ag_aadl.specs.Marked.{has_mark};
+ghost use Rattle.ag_aadl.specs.Marks.{package_mark, item_mark, end_mark, end_name_mark, close_mark};
+ghost use Rattle.ag_aadl.specs.Plainly.{having, is_in_name, name_at, is_declared, is_ending, has_border, IsFirstTwice, package_name, declared_name, end_name, IsFirstMisnamed, IsDelayed, IsFirstDelayed};
 ghost use Rattle.ag_aadl.specs.Rules.{same_names, is_section, Obeys, run, start};
 ghost use Rattle.ag_aadl.specs.Unsupported.{delayed};
 
@@ -23,6 +25,10 @@ pub fn ends_named()
     ensures declaration { (bytes : List ℕ) (front behind : List Marked) (last : Marked) → Obeys bytes (front ++ last ∷ behind) → last.mark ≡ end_name_mark → same_names bytes (declared_name (front ++ last ∷ [])) (end_name (front ++ last ∷ [])) ≡ true }
     // And at the `;` of each package's end.
     ensures package { (bytes : List ℕ) (front behind : List Marked) (last : Marked) → Obeys bytes (front ++ last ∷ behind) → last.mark ≡ close_mark → same_names bytes (package_name (front ++ last ∷ [])) (end_name (front ++ last ∷ [])) ≡ true }
+    // Written out: between a declaration's word and the last name at its end the same names stand twice.
+    ensures declaration_parts { (bytes : List ℕ) (before inner behind : List Marked) (word last : Marked) → Obeys bytes (before ++ word ∷ (inner ++ last ∷ behind)) → word.mark ≡ item_mark → last.mark ≡ end_name_mark → has_mark item_mark inner ≡ false → has_mark end_mark inner ≡ false → same_names bytes (having is_declared inner) (having is_ending inner ++ last.token ∷ []) ≡ true }
+    // And the name behind `package` stands behind its `end`.
+    ensures package_parts { (bytes : List ℕ) (before inner tail behind : List Marked) (word ends last : Marked) → Obeys bytes (before ++ word ∷ (inner ++ ends ∷ (tail ++ last ∷ behind))) → word.mark ≡ package_mark → ends.mark ≡ end_mark → last.mark ≡ close_mark → has_mark package_mark inner ≡ false → list_all (λ m. is_in_name m.mark) tail ≡ true → same_names bytes (name_at inner) (name_at tail) ≡ true }
     // The rule is broken first exactly at the first such token where it isn't so.
     ensures refused { (bytes : List ℕ) (ms : List Marked) (r : Refusal) → run bytes start ms ≡ Err r → r.rule ≡ EndName → IsFirstMisnamed bytes ms r }
     ensures broken { (bytes : List ℕ) (ms : List Marked) (r : Refusal) → IsFirstMisnamed bytes ms r → run bytes start ms ≡ Err r }

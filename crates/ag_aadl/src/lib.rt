@@ -23,7 +23,7 @@ mod find;
 mod foreign;
 mod idents;
 mod items;
-pub mod laws;
+mod laws;
 pub mod marked;
 pub mod marks;
 pub mod names;
