@@ -5,6 +5,7 @@ pub mod Shifting
 pub mod Breaking
 pub mod Refusals
 pub mod Answering
+pub mod Settling
 pub mod Broken
 pub mod Once
 pub mod Ends

@@ -10,6 +10,7 @@ pub mod Marks
 pub mod Marked
 pub mod Rules
 pub mod Unsupported
+pub mod Names
 pub mod Meaning
 pub mod Files
 pub mod Plainly

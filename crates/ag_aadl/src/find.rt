@@ -66,8 +66,8 @@ pub fn first_under(mark: u8, marked: &[Marked]) -> Token
     NO_TOKEN
 }
 
-// Whether a mark is one of these.
-fn is_among(marks: &[u8], mark: u8) -> bool
+/// Whether a mark is one of these.
+pub fn is_among(marks: &[u8], mark: u8) -> bool
     ensures { result ≡ is_among marks.now mark }
 {
     marks.contains(&mark)

@@ -13,8 +13,8 @@ use ag_base::{OutOfMemory, Text};
 use ag_lex::Token;
 use std::alloc::Global;
 
-// A text of the bytes of names, which are in ASCII.
-fn text_of(alloc: Global, bytes: &[u8]) -> Result<Text, OutOfMemory>
+/// A text of bytes that are in UTF-8, as those of names and of texts between quotes are.
+pub fn text_of(alloc: Global, bytes: &[u8]) -> Result<Text, OutOfMemory>
     ensures { IfOk result (λ t. t ≡ bytes.now) }
 {
     match std::str::from_utf8(bytes) {
@@ -84,8 +84,8 @@ pub fn some_ident(
     Ok(Some(ident_of(alloc, bytes, parts)?))
 }
 
-// The classifier of a name's parts and, behind the dot, perhaps a body.
-fn path_of(
+/// The classifier of a name's parts and, behind the dot, perhaps a body.
+pub fn path_of(
     alloc: Global,
     bytes: &[u8],
     parts: &[Token],

@@ -51,7 +51,8 @@ fn item_of(alloc: Global, bytes: &[u8], marked: &[Marked]) -> Result<Option<Item
     }
 }
 
-fn begins_with(mark: u8, marked: &[Marked]) -> bool
+/// Whether the first of the tokens has the mark.
+pub fn begins_with(mark: u8, marked: &[Marked]) -> bool
     ensures { result ≡ begins_with mark marked.now }
 {
     match marked.first() {

@@ -1,9 +1,15 @@
-//! The rules on packages once more, by what stands where among the marked tokens.
-ghost use Rattle.std.specs.Prelude.{◌≡◌, ◌++◌, ℕ, List, [], ◌∷◌, true, false, Err};
+//! The rules on packages once more, by what stands where among the marked tokens; and that tokens are packages or break
+//! a rule.
+ghost use Rattle.std.specs.Prelude.{◌≡◌, ◌⊎◌, ◌++◌, ℕ, List, [], ◌∷◌, true, false, Err};
 ghost use Rattle.std.specs.List.{list_all};
 ghost use Rattle.ag_base.specs.declared.place.Refusal.{Refusal};
 ghost use Rattle.ag_base.specs.declared.place.Rule.TheVariants.{EndName, Twice, Unsupported};
+ghost use Rattle.ag_grammar.specs.Founded.{IsFounded};
+ghost use Rattle.ag_lex.specs.declared.token.Token.{Token};
 ghost use Rattle.ag_aadl.specs.declared.marked.Marked.{Marked};
+ghost use Rattle.ag_aadl.specs.declared.packages.Package.{Package};
+ghost use Rattle.ag_aadl.specs.Files.{IsFile, IsFirstWrong};
+ghost use Rattle.ag_aadl.specs.Grammar.{aadl};
 ghost use Rattle.ag_aadl.specs.Marked.{has_mark};
 ghost use Rattle.ag_aadl.specs.Marks.{package_mark, item_mark, end_mark, end_name_mark, close_mark};
 ghost use Rattle.ag_aadl.specs.Plainly.{having, is_in_name, name_at, is_declared, is_ending, has_border, IsFirstTwice, package_name, declared_name, end_name, IsFirstMisnamed, IsDelayed, IsFirstDelayed};
@@ -42,3 +48,16 @@ pub fn never_delayed()
     ensures refused { (bytes : List ℕ) (ms : List Marked) (r : Refusal) → run bytes start ms ≡ Err r → r.rule ≡ Unsupported (record { number = delayed }) → IsFirstDelayed bytes ms r }
     ensures broken { (bytes : List ℕ) (ms : List Marked) (r : Refusal) → IsFirstDelayed bytes ms r → run bytes start ms ≡ Err r }
 {}
+
+/// In the grammar of packages no nonterminal begins with itself.
+pub fn aadl_is_founded()
+    ensures { IsFounded aadl }
+{}
+
+/// Tokens are those of some packages, or there is a rule that they break first.
+pub fn one_of_the_two()
+    ensures { (bytes : List ℕ) (tokens : List Token) → ((packages : List Package) × IsFile bytes tokens packages) ⊎ ((r : Refusal) × IsFirstWrong bytes tokens r) }
+{
+    aadl_is_founded();
+    ag_grammar::one_of_the_two();
+}

@@ -19,7 +19,7 @@ ghost use Rattle.ag_aadl.specs.Words.{terminals_of, AreTokensOf};
 
 mod declarations;
 mod files;
-mod find;
+pub mod find;
 mod foreign;
 mod idents;
 mod items;
@@ -44,8 +44,10 @@ use ag_base::{List, OutOfMemory, Refused};
 use ag_grammar::{one_derivation, one_place, read};
 use ag_lex::Token;
 use files::first_wrong;
+pub use idents::{ident_under, path_of, text_of};
+pub use items::begins_with;
 use items::packages_of;
-pub use laws::{ends_named, never_delayed, sections_once};
+pub use laws::{aadl_is_founded, ends_named, never_delayed, one_of_the_two, sections_once};
 use marked::{Marked, marked_tokens};
 pub use packages::{
     Body, Category, End, Frame, Ident, Item, Package, Path, Port, PortKind, Sub, Wire,
@@ -53,8 +55,9 @@ pub use packages::{
 pub use page::Packages;
 use rules::run;
 use std::alloc::Global;
-pub use unsupported::word_text;
+pub use unsupported::{first_bad_rule, text_at, word_text};
 use words::terminals;
+pub use words::{listed, own_bytes};
 
 // The tokens that were read, under their marks, and the place of the first bad one.
 #[derive(Drop)]

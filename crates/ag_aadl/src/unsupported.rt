@@ -28,8 +28,8 @@ const UNSUPPORTED_WORDS: &[&str] = &[
     "delayed",
 ];
 
-// The rule that is broken where one of these words can't stand, the first of which has this number.
-fn first_bad_rule(number: u8, words: &[&str], text: &[u8]) -> Rule
+/// The rule that is broken where one of these words can't stand, the first of which has this number.
+pub fn first_bad_rule(number: u8, words: &[&str], text: &[u8]) -> Rule
     requires { number + length words.now ≤ 255 }
     ensures { result ≡ first_bad_rule number (map (λ w. w.now) words.now) text.now }
 {
@@ -51,8 +51,8 @@ pub fn bad_rule(text: &[u8]) -> Rule
     first_bad_rule(0, UNSUPPORTED_WORDS, text)
 }
 
-// The text of that number, empty where there is none.
-fn nth(texts: &[&'static str], number: usize) -> &'static str
+/// The text of that number, empty where there is none.
+pub fn text_at(texts: &[&'static str], number: usize) -> &'static str
     ensures { result.now ≡ slice_index_or (map (λ t. t.now) texts.now) number [] }
 {
     if number < texts.len() {
@@ -67,5 +67,5 @@ fn nth(texts: &[&'static str], number: usize) -> &'static str
 pub fn word_text(word: Word) -> &'static str
     ensures { result.now ≡ word_text word }
 {
-    nth(UNSUPPORTED_WORDS, usize::from(word.number))
+    text_at(UNSUPPORTED_WORDS, usize::from(word.number))
 }

@@ -24,7 +24,7 @@ pub fn same(a: &[u8], b: &[u8]) -> bool
 }
 
 /// The terminal beside a text in a list, in any case, or another where the list lacks it.
-fn listed(entries: &[(&str, u8)], otherwise: u8, own: &[u8]) -> u8
+pub fn listed(entries: &[(&str, u8)], otherwise: u8, own: &[u8]) -> u8
     ensures { result ≡ listed (map (λ e. (e.0.now, e.1)) entries.now) otherwise own.now }
 {
     for (text, terminal) in entries {

@@ -2,6 +2,7 @@
 pub mod Grammar
 pub mod Texts
 pub mod Deterministic
+pub mod Founded
 pub mod Answers
 pub mod Reading
 pub mod Example

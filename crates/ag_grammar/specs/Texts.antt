@@ -26,6 +26,12 @@ shifts [] = 0
 shifts (Shift mark ∷ steps) = suc (shifts steps)
 shifts (Expand name ∷ steps) = shifts steps
 
+-- the marks of the terminals that the steps shift
+abbrev pub marks_of : List Step → List ℕ
+marks_of [] = []
+marks_of (Shift mark ∷ steps) = mark ∷ marks_of steps
+marks_of (Expand name ∷ steps) = marks_of steps
+
 -- the steps begin the derivation of a text that begins with the terminals that they shift
 abbrev pub Begins : PlainGrammar → List ℕ → List Step → Type 0
 Begins g xs steps = (rest : List ℕ) × (more : List Step) × IsText g (take (shifts steps) xs ++ rest) (steps ++ more)

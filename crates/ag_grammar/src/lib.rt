@@ -4,11 +4,12 @@
 //! terminal with which it begins no text of the grammar. Start at `read`, and at specs/Texts.antt.
 #![tactic(auto)]
 
-ghost use Rattle.std.specs.Prelude.{◌≡◌, ℕ, List};
+ghost use Rattle.std.specs.Prelude.{◌≡◌, ℕ, List, Option};
 ghost use Rattle.ag_grammar.specs.declared.grammar.Step.{Step};
 ghost use Rattle.ag_grammar.specs.Grammar.{PlainGrammar};
-ghost use Rattle.ag_grammar.specs.Texts.{IsText, IsFirstBad};
+ghost use Rattle.ag_grammar.specs.Texts.{IsText, IsFirstBad, IsReading, AreForced};
 ghost use Rattle.ag_grammar.specs.Deterministic.{IsLl1};
+ghost use Rattle.ag_grammar.specs.Founded.{IsFounded};
 
 pub mod grammar;
 pub mod reader;
@@ -25,6 +26,11 @@ pub fn one_derivation()
 pub fn one_place()
     ensures one { (g : PlainGrammar) (xs : List ℕ) (at other : ℕ) → IsFirstBad g xs at → IsFirstBad g xs other → at ≡ other }
     ensures none { (g : PlainGrammar) (xs : List ℕ) (at : ℕ) (steps : List Step) → IsFirstBad g xs at → IsText g xs steps → ⊥ }
+{}
+
+/// Where no nonterminal begins with itself, a list of terminals has a derivation or a first bad place.
+pub fn one_of_the_two()
+    ensures { (g : PlainGrammar) → IsFounded g → (xs : List ℕ) → (steps : List Step) × (bad : Option ℕ) × IsReading g xs steps bad × AreForced g xs steps }
 {}
 
 #[cfg(test)]

@@ -1,23 +1,23 @@
--- Pieces that are made one behind the other: what ends a name or a symbol, and that they break no rule.
-use Rattle.std.proofs.Common.{◌≡◌, ℕ, ◌<◌, ◌≤◌, Bool, true, false, List, [], ◌∷◌, ◌++◌, length, take, drop, refl, sym, ap, subst, ◌∙◌, inl, inr, arith}
+-- Pieces that are made one behind the other: what ends a name, a number or a symbol, and that they break no rule.
+use Rattle.std.proofs.Common.{◌≡◌, ℕ, ◌<◌, ◌≤◌, Bool, true, false, ◌||◌, ◌==◌, List, [], ◌∷◌, ◌++◌, length, take, drop, refl, sym, ap, subst, ◌∙◌, inl, inr, arith}
 use Rattle.std.specs.Prelude.{codes, nat_eq}
-use Rattle.std.specs.Char.{is_ascii_alphabetic}
+use Rattle.std.specs.Char.{is_ascii_alphabetic, is_ascii_digit}
 use Rattle.std.specs.List.{list_any, prefix_len, starts_with}
 use Rattle.std.specs.Str.{IsUtf8, bytes_eq}
-use Rattle.std.proofs.lemmas.Bool.{cases_lt, or_cases, or_left, or_right, both_ways}
+use Rattle.std.proofs.lemmas.Bool.{cases_lt, or_cases, or_left, or_parts, or_right, both_ways}
 use Rattle.std.proofs.lemmas.List.{append_assoc, append_cancel_left, length-append, take_at, drop_at}
 use Rattle.std.proofs.lemmas.Slice.Eq.{bytes_eq-Decides}
 use Rattle.ag_lex.specs.declared.token.Language.{Language}
 use Rattle.ag_lex.specs.declared.token.Language.TheVariants.{Aadl}
-use Rattle.ag_lex.specs.declared.token.TokenKind.TheVariants.{Name, Symbol}
-use Rattle.ag_lex.specs.Characters.{is_word_byte, begins}
-use Rattle.ag_lex.specs.Spelling.{IsToken, is_name, is_symbol, is_sign_alone, goes_on, long_symbols}
+use Rattle.ag_lex.specs.declared.token.TokenKind.TheVariants.{Name, Number, Symbol}
+use Rattle.ag_lex.specs.Characters.{is_word_byte, is_number_byte, begins}
+use Rattle.ag_lex.specs.Spelling.{IsToken, is_name, is_number, is_symbol, is_sign_alone, goes_on, long_symbols}
 use Rattle.ag_lex.specs.Tokens.{Piece, AreRead, tokens_of}
 use Rattle.ag_lex.specs.Rules.{AreFine}
 use Rattle.ag_lex.specs.Answers.{AreKept}
 use Rattle.ag_lex.proofs.Fronts.{prefix_len-front, longer_front, starts_from, head, run_begins, run_all, begins-append}
-use Rattle.ag_lex.proofs.KindsApart.{filled, group_of, group_is, letter_is_word, no_annex_symbol}
-use Rattle.ag_lex.proofs.Longest.{name_found, signs, one_byte}
+use Rattle.ag_lex.proofs.KindsApart.{filled, group_of, group_is, letter_is_word, digit_is_number, no_annex_symbol}
+use Rattle.ag_lex.proofs.Longest.{name_found, number_found, signs, one_byte}
 use Rattle.ag_lex.proofs.Reaching.{reach_before, breaks_some}
 use Rattle.ag_lex.proofs.Whole.{no_end_of_text}
 
@@ -32,6 +32,29 @@ name_ends l own rest is ends =
     let back : drop n here ≡ rest = ap (λ (k : ℕ). drop k here) len ∙ drop_at own rest (length own) refl in
     let found = name_found l here (begins-append is_ascii_alphabetic own rest (run_begins is_ascii_alphabetic is_word_byte own is)) in
     subst (λ (z : List ℕ). IsToken l Name own z) back (subst (λ (z : List ℕ). IsToken l Name z (drop n here)) front found)
+
+-- ---- numbers
+
+-- what goes on a number, or begins a fraction
+abbrev widens : Language → ℕ → Bool
+widens l b = is_number_byte l b || b == 46
+
+none_of_both : (l : Language) (rest : List ℕ) → begins (widens l) rest ≡ false → (begins (is_number_byte l) rest ≡ false) × (begins (λ b. b == 46) rest ≡ false)
+none_of_both l [] h = (refl, refl)
+none_of_both l (b ∷ bs) h = or_parts (is_number_byte l b) (b == 46) h
+
+pub number_ends : (l : Language) (own rest : List ℕ) → is_number l own ≡ true → begins (widens l) rest ≡ false → IsToken l Number own rest
+number_ends l own rest is ends =
+    let here = own ++ rest in
+    let none = none_of_both l rest ends in
+    let n = prefix_len (is_number_byte l) here in
+    let len : n ≡ length own = prefix_len-front (is_number_byte l) own rest (run_all is_ascii_digit (is_number_byte l) own (digit_is_number l) is) none.0 in
+    let front : take n here ≡ own = ap (λ (k : ℕ). take k here) len ∙ take_at own rest (length own) refl in
+    let back : drop n here ≡ rest = ap (λ (k : ℕ). drop k here) len ∙ drop_at own rest (length own) refl in
+    let found =
+    number_found l here (begins-append is_ascii_digit own rest (run_begins is_ascii_digit (is_number_byte l) own is)) (λ fraction after e f.
+    both_ways (begins (λ b. b == 46) rest) none.1 (ap (begins (λ b. b == 46)) (sym back ∙ e))) in
+    subst (λ (z : List ℕ). IsToken l Number own z) back (subst (λ (z : List ℕ). IsToken l Number z (drop n here)) front found)
 
 -- ---- symbols
 

@@ -4,16 +4,17 @@
 //! they break at its place. Start at `file_tokens`, and at specs/Tokens.antt.
 #![tactic(auto)]
 
-ghost use Rattle.std.specs.Prelude.{◌≡◌, ◌⊎◌, ◌^◌, ◌<◌, ℕ, not, List, [], length, Contains, IfOk, IsTrue, Result, Err};
+ghost use Rattle.std.specs.Prelude.{◌≡◌, ◌⊎◌, ◌^◌, ◌<◌, ◌==◌, ◌||◌, ◌++◌, ℕ, not, List, [], length, Contains, IfOk, IsTrue, Result, Err, codes};
+ghost use Rattle.std.specs.List.{list_all};
 ghost use Rattle.std.specs.Str.{IsUtf8};
 ghost use Rattle.ag_base.specs.declared.place.Refusal.{Refusal};
 ghost use Rattle.ag_base.specs.declared.place.Refused.TheVariants.{Model};
 ghost use Rattle.ag_lex.specs.declared.token.Language.{Language};
 ghost use Rattle.ag_lex.specs.declared.token.Language.TheVariants.{Aadl, Agree};
 ghost use Rattle.ag_lex.specs.declared.token.Token.{Token};
-ghost use Rattle.ag_lex.specs.declared.token.TokenKind.TheVariants.{Name, Symbol};
-ghost use Rattle.ag_lex.specs.Characters.{begins, is_word_byte};
-ghost use Rattle.ag_lex.specs.Spelling.{IsToken, is_name, is_symbol, goes_on};
+ghost use Rattle.ag_lex.specs.declared.token.TokenKind.TheVariants.{Name, Number, Text, Annex, Symbol};
+ghost use Rattle.ag_lex.specs.Characters.{begins, is_word_byte, is_number_byte, is_text_byte};
+ghost use Rattle.ag_lex.specs.Spelling.{IsToken, is_name, is_number, is_symbol, goes_on, has_close};
 ghost use Rattle.ag_lex.specs.Places.{place_of};
 ghost use Rattle.ag_lex.specs.Tokens.{Piece, AreRead, AreTokens, StandsIn, tokens_of};
 ghost use Rattle.ag_lex.specs.Rules.{IsFirstBroken, KeepsRules, AreFine};
@@ -109,6 +110,21 @@ pub fn tokens_stand()
 /// A name is a token where no letter, digit or `_` follows.
 pub fn names_end()
     ensures { (l : Language) (own rest : List ℕ) → IsTrue (is_name own) → IsTrue (not (begins is_word_byte rest)) → IsToken l Name own rest }
+{}
+
+/// A number is a token where neither what goes on a number nor a point follows.
+pub fn numbers_end()
+    ensures { (l : Language) (own rest : List ℕ) → IsTrue (is_number l own) → IsTrue (not (begins (λ b. is_number_byte l b || b == 46) rest)) → IsToken l Number own rest }
+{}
+
+/// A text between quotes is a token, whatever follows.
+pub fn texts_end()
+    ensures { (l : Language) (text rest : List ℕ) → IsTrue (list_all is_text_byte text) → IsToken l Text (codes "\"" ++ (text ++ codes "\"")) rest }
+{}
+
+/// An annex is a token up to its first `**}`, whatever follows.
+pub fn annexes_end()
+    ensures { (l : Language) (inside rest : List ℕ) → IsTrue (not (has_close (inside ++ codes "**"))) → IsToken l Annex (codes "{**" ++ (inside ++ codes "**}")) rest }
 {}
 
 /// A symbol is a token where what follows doesn't go on with it.

@@ -1,4 +1,4 @@
-use Rattle.std.proofs.Common.{◌≡◌, ◌+◌, ◌<◌, ◌^◌, [], length, ap, arith, refl, sym, ◌∙◌}
+use Rattle.std.proofs.Common.{◌≡◌, [], ap, arith, sym, ◌∙◌}
 use Rattle.ag_base.specs.declared.place.Place.{Place}
 use Rattle.ag_lex.specs.Places.{place_of}
 use Rattle.ag_lex.proofs.end_place.Goals as goal
