@@ -1,0 +1,21 @@
+-- The lemmas of this crate.
+pub mod AnnexEnds
+pub mod Running
+pub mod Breaking
+pub mod Refusals
+pub mod Answering
+pub mod Settling
+pub mod NumbersFit
+pub mod Decimals
+pub mod Ending
+pub mod Fitting
+pub mod Ranks
+pub mod Levels
+pub mod Joining
+pub mod Flat
+pub mod Reaching
+pub mod Names
+pub mod FlatReading
+pub mod Parsing
+pub mod Deriving
+pub mod EachExpression

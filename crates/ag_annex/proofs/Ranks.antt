@@ -1,0 +1,203 @@
+-- What an operator asks of its operands, and what ends before an operator, by ranks.
+use Rattle.std.proofs.Common.{◌≡◌, ◌<◌, ◌≤◌, ◌+◌, ◌-◌, inl, inr, ℕ, zero, suc, Bool, true, false, ◌==◌, ◌&&◌, if◌then◌else◌, List, ◌∷◌, ◌++◌, Some, refl, sym, ap, subst, ◌∙◌, arith}
+use Rattle.std.specs.Prelude.{nat_lt}
+use Rattle.std.proofs.lemmas.Bool.{cases_eq, cases_lt, lt-ltb, le-ltb, eq-eqb, ne_eqb, or_left, or_right, and_from, and_left, and_right, or_from}
+use Rattle.ag_base.specs.declared.place.Place.{Place}
+use Rattle.ag_aadl.specs.declared.marked.Marked.{Marked}
+use Rattle.ag_annex.specs.declared.frames.Frame.{Frame}
+use Rattle.ag_annex.specs.declared.frames.Frame.TheVariants as frame
+use Rattle.ag_annex.specs.declared.nesting.Open.{Open}
+use Rattle.ag_annex.specs.declared.nesting.Open.TheVariants.{Chain}
+use Rattle.ag_annex.specs.declared.terms.Binary.{Binary}
+use Rattle.ag_annex.specs.declared.terms.Binary.TheVariants.{Arrow, Implies, Iff, Or, And, Less, AtMost, More, AtLeast, Same, Differs, Plus, Minus, Times, Div, Mod}
+use Rattle.ag_annex.specs.declared.terms.Term.{Term}
+use Rattle.ag_annex.specs.declared.terms.Term.TheViews as term
+use Rattle.ag_annex.specs.Expressions.{ends_before, close_before, close_choice}
+use Rattle.ag_annex.specs.Lines.{IsRanked, tighter, leftward, rightward, compared, factor}
+use Rattle.ag_annex.specs.Nesting.{behind_operator, behind_comparison, behind_choice}
+use Rattle.ag_annex.specs.Operators.{binary_of, rank, comparison, last_right}
+
+-- the rank that an operator of this rank asks of its right operand
+abbrev pub right_of : ℕ → ℕ
+right_of r = if nat_lt last_right r then suc r else r
+
+-- the rank that it asks of its left operand
+abbrev pub left_of : ℕ → ℕ
+left_of r = if r == comparison then suc r else (if nat_lt last_right r then r else suc r)
+
+-- ---- numbers
+
+-- an operand on the right binds at least as tightly as the operator
+pub right_least : (r : ℕ) → r ≤ right_of r
+right_least r = elim (cases_lt last_right r) [
+  | inl h ↦ let e : right_of r ≡ suc r = ap (λ (b : Bool). if b then suc r else r) (lt-ltb last_right r h) in omega (arith, e)
+  | inr h ↦ let e : right_of r ≡ r = ap (λ (b : Bool). if b then suc r else r) (le-ltb last_right r h) in omega (arith, e)
+]
+
+-- and at most one rank tighter
+pub right_most : (r : ℕ) → right_of r ≤ suc r
+right_most r = elim (cases_lt last_right r) [
+  | inl h ↦ let e : right_of r ≡ suc r = ap (λ (b : Bool). if b then suc r else r) (lt-ltb last_right r h) in omega (arith, e)
+  | inr h ↦ let e : right_of r ≡ r = ap (λ (b : Bool). if b then suc r else r) (le-ltb last_right r h) in omega (arith, e)
+]
+
+-- as tightly, where operators associate to the right
+pub right_same : (r : ℕ) → r ≤ last_right → right_of r ≡ r
+right_same r h = ap (λ (b : Bool). if b then suc r else r) (le-ltb last_right r h)
+
+-- one rank tighter, where they associate to the left
+pub right_next : (r : ℕ) → last_right < r → right_of r ≡ suc r
+right_next r h = ap (λ (b : Bool). if b then suc r else r) (lt-ltb last_right r h)
+
+-- what binds looser than an operator that associates to the left
+pub right_below : (k r : ℕ) → right_of k ≤ r → last_right < r → k < r
+right_below k r h left = elim (cases_lt last_right k) [
+  | inl g ↦ let e = right_next k g in omega (arith, e)
+  | inr g ↦ omega arith
+]
+
+-- an operand on the left binds at most one rank tighter than the operator
+pub left_most : (r : ℕ) → left_of r ≤ suc r
+left_most r = elim (cases_eq r comparison) [
+  | inl h ↦ let e : left_of r ≡ suc r = ap (λ (b : Bool). if b then suc r else (if nat_lt last_right r then r else suc r)) (eq-eqb r comparison h) in omega (arith, e)
+  | inr h ↦
+      let e : left_of r ≡ (if nat_lt last_right r then r else suc r) = ap (λ (b : Bool). if b then suc r else (if nat_lt last_right r then r else suc r)) (ne_eqb r comparison h) in
+      elim (cases_lt last_right r) [
+        | inl g ↦ let f : left_of r ≡ r = e ∙ ap (λ (b : Bool). if b then r else suc r) (lt-ltb last_right r g) in omega (arith, f)
+        | inr g ↦ let f : left_of r ≡ suc r = e ∙ ap (λ (b : Bool). if b then r else suc r) (le-ltb last_right r g) in omega (arith, f)
+      ]
+]
+
+-- as tightly, where operators associate to the left
+pub left_same : (r : ℕ) → (r ≡ comparison → ⊥) → last_right < r → left_of r ≡ r
+left_same r other h = ap (λ (b : Bool). if b then suc r else (if nat_lt last_right r then r else suc r)) (ne_eqb r comparison other) ∙ ap (λ (b : Bool). if b then r else suc r) (lt-ltb last_right r h)
+
+-- each operator binds looser than operands do
+pub rank_within : (op : Binary) → rank op < factor
+rank_within Arrow = omega arith
+rank_within Implies = omega arith
+rank_within Iff = omega arith
+rank_within Or = omega arith
+rank_within And = omega arith
+rank_within Less = omega arith
+rank_within AtMost = omega arith
+rank_within More = omega arith
+rank_within AtLeast = omega arith
+rank_within Same = omega arith
+rank_within Differs = omega arith
+rank_within Plus = omega arith
+rank_within Minus = omega arith
+rank_within Times = omega arith
+rank_within Div = omega arith
+rank_within Mod = omega arith
+
+-- ---- operands
+
+-- the same by how many ranks less is asked
+loosen-by : (bytes : List ℕ) (count r : ℕ) (ms : List Marked) (t : Term) → r + count ≤ factor → IsRanked bytes (r + count) ms t → IsRanked bytes r ms t
+loosen-by bytes zero r ms t h is = let e : r + 0 ≡ r = omega arith in subst (λ (n : ℕ). IsRanked bytes n ms t) e is
+loosen-by bytes (suc count) r ms t h is =
+    let e : r + suc count ≡ suc r + count = omega arith in
+    tighter r ms t (omega arith) (loosen-by bytes count (suc r) ms t (omega arith) (subst (λ (n : ℕ). IsRanked bytes n ms t) e is))
+
+-- what binds tightly is an operand where less is asked
+pub loosen : (bytes : List ℕ) (r q : ℕ) (ms : List Marked) (t : Term) → r ≤ q → q ≤ factor → IsRanked bytes q ms t → IsRanked bytes r ms t
+loosen bytes r q ms t h k is =
+    let e : q ≡ r + (q - r) = omega arith in
+    loosen-by bytes (q - r) r ms t (omega arith) (subst (λ (n : ℕ). IsRanked bytes n ms t) e is)
+
+-- an operator between operands that bind as tightly as it asks
+pub joined : (bytes : List ℕ) (op : Binary) (m : Marked) (before behind : List Marked) (left right : Term) → binary_of m.mark ≡ Some op
+    → IsRanked bytes (left_of (rank op)) before left → IsRanked bytes (right_of (rank op)) behind right → IsRanked bytes (rank op) (before ++ m ∷ behind) (term.Binary op m.token.place left right)
+joined bytes Arrow m before behind left right e l r = rightward Arrow m before behind left right e (omega arith) l r
+joined bytes Implies m before behind left right e l r = rightward Implies m before behind left right e (omega arith) l r
+joined bytes Iff m before behind left right e l r = rightward Iff m before behind left right e (omega arith) l r
+joined bytes Or m before behind left right e l r = leftward Or m before behind left right e (omega arith) (λ n. omega arith) l r
+joined bytes And m before behind left right e l r = leftward And m before behind left right e (omega arith) (λ n. omega arith) l r
+joined bytes Less m before behind left right e l r = compared Less m before behind left right e refl l r
+joined bytes AtMost m before behind left right e l r = compared AtMost m before behind left right e refl l r
+joined bytes More m before behind left right e l r = compared More m before behind left right e refl l r
+joined bytes AtLeast m before behind left right e l r = compared AtLeast m before behind left right e refl l r
+joined bytes Same m before behind left right e l r = compared Same m before behind left right e refl l r
+joined bytes Differs m before behind left right e l r = compared Differs m before behind left right e refl l r
+joined bytes Plus m before behind left right e l r = leftward Plus m before behind left right e (omega arith) (λ n. omega arith) l r
+joined bytes Minus m before behind left right e l r = leftward Minus m before behind left right e (omega arith) (λ n. omega arith) l r
+joined bytes Times m before behind left right e l r = leftward Times m before behind left right e (omega arith) (λ n. omega arith) l r
+joined bytes Div m before behind left right e l r = leftward Div m before behind left right e (omega arith) (λ n. omega arith) l r
+joined bytes Mod m before behind left right e l r = leftward Mod m before behind left right e (omega arith) (λ n. omega arith) l r
+
+-- ---- what ends before an operator
+
+-- what binds tighter ends before an operator
+pub ends-tighter : (op : Binary) (r : ℕ) → r < rank op → ends_before op r ≡ true
+ends-tighter op r h = or_left (nat_lt r (rank op)) (rank op == r && nat_lt last_right r) (lt-ltb r (rank op) h)
+
+-- so does what binds as tightly, to the left
+pub ends-left : (op : Binary) (r : ℕ) → rank op ≡ r → last_right < r → ends_before op r ≡ true
+ends-left op r h left = or_right (nat_lt r (rank op)) (rank op == r && nat_lt last_right r) (and_from (rank op == r) (nat_lt last_right r) (eq-eqb (rank op) r h) (lt-ltb last_right r left))
+
+-- what binds as tightly, to the right, does not
+pub stays-right : (op : Binary) (r : ℕ) → rank op ≡ r → r ≤ last_right → ends_before op r ≡ false
+stays-right op r h right = or_from (nat_lt r (rank op)) (rank op == r && nat_lt last_right r) (le-ltb r (rank op) (omega arith)) (and_right (rank op == r) (nat_lt last_right r) (le-ltb last_right r right))
+
+-- nor does what binds looser
+pub stays-looser : (op : Binary) (r : ℕ) → rank op < r → ends_before op r ≡ false
+stays-looser op r h = or_from (nat_lt r (rank op)) (rank op == r && nat_lt last_right r) (le-ltb r (rank op) (omega arith)) (and_left (rank op == r) (nat_lt last_right r) (ne_eqb (rank op) r (λ e. omega arith)))
+
+-- an operator ends, and is the last operand of those before it
+pub goes-on : (op : Binary) (place : Place) (left : Term) (r : ℕ) (frames : List Frame) (t : Term) → ends_before op r ≡ true → (r == comparison && rank op == comparison) ≡ false →
+    close_before r (frame.Infix op place left ∷ frames) t ≡ close_before r frames (term.Binary op place left t)
+goes-on op place left r frames t e f =
+    let b = term.Binary op place left t in
+    ap (λ (x : Bool). if x then (if r == comparison && rank op == comparison then close_choice r frames b else close_before r frames b) else (frame.Infix op place left ∷ frames, t)) e
+    ∙ ap (λ (x : Bool). if x then close_choice r frames b else close_before r frames b) f
+
+-- a comparison ends before another one, as the last operand of the choice before it
+pub goes-back : (op : Binary) (place : Place) (left : Term) (frames : List Frame) (t : Term) → ends_before op comparison ≡ true → rank op ≡ comparison →
+    close_before comparison (frame.Infix op place left ∷ frames) t ≡ close_choice comparison frames (term.Binary op place left t)
+goes-back op place left frames t e f =
+    let b = term.Binary op place left t in
+    ap (λ (x : Bool). if x then (if rank op == comparison then close_choice comparison frames b else close_before comparison frames b) else (frame.Infix op place left ∷ frames, t)) e
+    ∙ ap (λ (x : Bool). if x then close_choice comparison frames b else close_before comparison frames b) (eq-eqb (rank op) comparison f)
+
+-- an operator still waits for its right operand
+pub stays : (op : Binary) (place : Place) (left : Term) (r : ℕ) (frames : List Frame) (t : Term) → ends_before op r ≡ false → close_before r (frame.Infix op place left ∷ frames) t ≡ (frame.Infix op place left ∷ frames, t)
+stays op place left r frames t e =
+    let b = term.Binary op place left t in
+    ap (λ (x : Bool). if x then (if r == comparison && rank op == comparison then close_choice r frames b else close_before r frames b) else (frame.Infix op place left ∷ frames, t)) e
+
+-- ---- what is open behind an operator
+
+-- a chain of a greater rank ends before an operator
+pub chain-ends : (r q count : ℕ) (opens : List Open) → r < q → behind_operator r (Chain q count ∷ opens) ≡ behind_operator r opens
+chain-ends r q count opens h =
+    ap (λ (x : Bool). if x then behind_operator r opens else (if r == q then Chain r (count + 1) ∷ opens else Chain r 1 ∷ Chain q count ∷ opens)) (lt-ltb r q h)
+
+-- a chain of its own rank goes on with it
+pub chain-grows : (r q count : ℕ) (opens : List Open) → q ≡ r → behind_operator r (Chain q count ∷ opens) ≡ Chain r (count + 1) ∷ opens
+chain-grows r q count opens h =
+    ap (λ (x : Bool). if x then behind_operator r opens else (if r == q then Chain r (count + 1) ∷ opens else Chain r 1 ∷ Chain q count ∷ opens)) (le-ltb r q (omega arith))
+    ∙ ap (λ (x : Bool). if x then Chain r (count + 1) ∷ opens else Chain r 1 ∷ Chain q count ∷ opens) (eq-eqb r q (sym h))
+
+-- behind a chain of a smaller rank it begins one
+pub chain-begins : (r q count : ℕ) (opens : List Open) → q < r → behind_operator r (Chain q count ∷ opens) ≡ Chain r 1 ∷ Chain q count ∷ opens
+chain-begins r q count opens h =
+    ap (λ (x : Bool). if x then behind_operator r opens else (if r == q then Chain r (count + 1) ∷ opens else Chain r 1 ∷ Chain q count ∷ opens)) (le-ltb r q (omega arith))
+    ∙ ap (λ (x : Bool). if x then Chain r (count + 1) ∷ opens else Chain r 1 ∷ Chain q count ∷ opens) (ne_eqb r q (λ e. omega arith))
+
+-- a chain of a greater rank ends before a comparison
+pub compared-ends : (q count : ℕ) (opens : List Open) → comparison < q → behind_comparison (Chain q count ∷ opens) ≡ behind_comparison opens
+compared-ends q count opens h =
+    ap (λ (x : Bool). if x then behind_comparison opens else (if q == comparison then behind_choice opens else Some (Chain comparison 1 ∷ Chain q count ∷ opens))) (lt-ltb comparison q h)
+
+-- a second comparison asks for a choice
+pub compared-again : (q count : ℕ) (opens : List Open) → q ≡ comparison → behind_comparison (Chain q count ∷ opens) ≡ behind_choice opens
+compared-again q count opens h =
+    ap (λ (x : Bool). if x then behind_comparison opens else (if q == comparison then behind_choice opens else Some (Chain comparison 1 ∷ Chain q count ∷ opens))) (le-ltb comparison q (omega arith))
+    ∙ ap (λ (x : Bool). if x then behind_choice opens else Some (Chain comparison 1 ∷ Chain q count ∷ opens)) (eq-eqb q comparison h)
+
+-- behind a chain of a smaller rank a comparison begins one
+pub compared-begins : (q count : ℕ) (opens : List Open) → q < comparison → behind_comparison (Chain q count ∷ opens) ≡ Some (Chain comparison 1 ∷ Chain q count ∷ opens)
+compared-begins q count opens h =
+    ap (λ (x : Bool). if x then behind_comparison opens else (if q == comparison then behind_choice opens else Some (Chain comparison 1 ∷ Chain q count ∷ opens))) (le-ltb comparison q (omega arith))
+    ∙ ap (λ (x : Bool). if x then behind_choice opens else Some (Chain comparison 1 ∷ Chain q count ∷ opens)) (ne_eqb q comparison (λ e. omega arith))

@@ -1,0 +1,10 @@
+use Rattle.std.proofs.Common.{◌≡◌, length}
+use Rattle.ag_annex.specs.Expressions.{close_all}
+use Rattle.ag_annex.proofs.closing.close_all.Given as goal
+
+-- what is left to close gives what was to be closed
+abbrev pub invariant-loop-frame : goal.invariant-loop-frame
+invariant-loop-frame l = close_all l.frames l.closed ≡ close_all l.fn.frames l.fn.last
+
+abbrev pub decreases-loop-frame : goal.decreases-loop-frame
+decreases-loop-frame l = length l.frames

@@ -1,0 +1,16 @@
+use Rattle.std.proofs.Common.{◌≡◌, ◌++◌, ◌∷◌, [], map, sym, ap, subst, ◌∙◌}
+use Rattle.ag_aadl.specs.Marked.{segments}
+use Rattle.ag_annex.specs.Clauses.{equal_of}
+use Rattle.ag_annex.specs.Marks.{target_mark}
+use Rattle.ag_annex.proofs.Fitting.{AreFit, fit-segments}
+use Rattle.ag_annex.proofs.meaning.equations_of.Goals as goal
+
+pub loop-part-init : goal.loop-part-init
+loop-part-init c =
+    let bytes = c.args.bytes.now in
+    let ms = c.args.marked.now in
+    let parts : map (λ p. p.now) c.deref-part-items.result.now ≡ segments (target_mark ∷ []) ms = ap (map (λ p. p.now)) c.deref-part-items.ensures.value ∙ c.in_ok-parts.ensures in
+    record {
+      made = ap (λ q. q ++ map (equal_of bytes) (map (λ p. p.now) c.deref-part-items.result.now)) c.new-equations.ensures ∙ ap (map (equal_of bytes)) parts;
+      fit = subst (AreFit bytes) (sym parts) (fit-segments bytes (target_mark ∷ []) ms c.requires);
+    }
