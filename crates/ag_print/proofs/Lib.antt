@@ -14,11 +14,15 @@ pub mod RereadingNames
 pub mod RereadingBack
 pub mod RereadingRules
 pub mod RereadingKept
+pub mod RereadingAnnexes
 pub mod RereadingAgain
 pub mod RereadingPrintable
 pub mod RereadingWhole
+pub mod RereadingClauses
 pub mod Writing
-pub mod FirstAnnex
+pub mod AnnexesRead
+pub mod Lists
+pub mod Sharing
 pub mod Printing
 pub mod Situations
 pub mod PlainTokens
@@ -27,3 +31,6 @@ pub mod Segmented
 pub mod PrintableNames
 pub mod PrintableParts
 pub mod PrintablePackages
+pub mod AnnexTexts
+pub mod AnnexItems
+pub mod PrintableStated

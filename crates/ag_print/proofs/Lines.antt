@@ -9,20 +9,20 @@ use Rattle.std.proofs.lemmas.Bool.Decides.{nat_tests}
 use Rattle.std.proofs.lemmas.Grind.{flat_map-append}
 use Rattle.std.proofs.lemmas.List.{append_assoc, append-nil, take_at, drop_at}
 use Rattle.std.proofs.lemmas.List.Elements.{All-head, All-tail}
-use Rattle.std.proofs.lemmas.Str.{IsAscii-append, IsUtf8-from_ascii}
+use Rattle.std.proofs.lemmas.Str.{IsUtf8-append, IsUtf8-from_ascii}
 use Rattle.std.proofs.lemmas.Str.Ascii.{IsAscii-nil, IsAscii-cons}
 use Rattle.ag_lex.specs.declared.token.Language.{Language}
 use Rattle.ag_lex.specs.declared.token.Language.TheVariants.{Aadl}
 use Rattle.ag_lex.specs.declared.token.Token.{Token}
 use Rattle.ag_lex.specs.declared.token.TokenKind.{TokenKind}
-use Rattle.ag_lex.specs.declared.token.TokenKind.TheVariants.{Name, Symbol}
+use Rattle.ag_lex.specs.declared.token.TokenKind.TheVariants.{Name, Annex, Symbol}
 use Rattle.ag_lex.specs.Characters.{is_word_byte}
 use Rattle.ag_lex.specs.Spelling.{is_name}
 use Rattle.ag_lex.specs.Tokens.{Piece, Space, Comment, Lexeme, AreRead, tokens_of}
 use Rattle.ag_lex.specs.Rules.{IsFine, AreFine}
 use Rattle.ag_lex.specs.Answers.{AreKept}
 use Rattle.ag_print.specs.Layout.{Word, joins_before, joins_behind, words_bytes, line_bytes, text_bytes, package_symbols, IsSpelled, IsSoundLine, words_of, word_at}
-use Rattle.ag_print.proofs.Symbols.{NamesEnd, SymbolsEnd, passes, token_stands}
+use Rattle.ag_print.proofs.Symbols.{NamesEnd, SymbolsEnd, AnnexesEnd, passes, token_stands}
 
 abbrev pub PiecesKeep : Type 0
 PiecesKeep = (l : Language) (file : ℕ) (before text : List ℕ) (pieces : List Piece) → AreRead l pieces text [] → AreFine l pieces → (l ≡ Aadl → IsUtf8 text) → AreKept l file before text (tokens_of file before pieces)
@@ -55,24 +55,24 @@ regroup a b c d = simp append_assoc
 regroup_pieces : (a : List Piece) (p : Piece) (c d : List Piece) → (a ++ (p ∷ c)) ++ d ≡ a ++ (p ∷ (c ++ d))
 regroup_pieces a p c d = simp append_assoc
 
-read_words : NamesEnd → SymbolsEnd → (joined : Bool) (ws : List Word) (tail : List Piece) (rest : List ℕ) → IsSoundLine ws → AreRead Aadl tail rest []
+read_words : NamesEnd → SymbolsEnd → AnnexesEnd → (joined : Bool) (ws : List Word) (tail : List Piece) (rest : List ℕ) → IsSoundLine ws → AreRead Aadl tail rest []
     → AreRead Aadl (words_pieces joined ws ++ (Space 10 ∷ tail)) (words_bytes joined ws ++ (10 ∷ rest)) []
-read_words names symbols joined [] tail rest s r = (rest, refl, refl, r)
-read_words names symbols joined (w ∷ ws) tail rest s r =
-    let later = read_words names symbols (joins_behind w) ws tail rest s.2 r in
+read_words names symbols annexes joined [] tail rest s r = (rest, refl, refl, r)
+read_words names symbols annexes joined (w ∷ ws) tail rest s r =
+    let later = read_words names symbols annexes (joins_behind w) ws tail rest s.2 r in
     let more = words_bytes (joins_behind w) ws ++ (10 ∷ rest) in
     let ps = words_pieces (joins_behind w) ws ++ (Space 10 ∷ tail) in
-    let here : AreRead Aadl (Lexeme w.kind w.own ∷ ps) (w.own ++ more) [] = (more, refl, token_stands names symbols w ws rest s, later) in
+    let here : AreRead Aadl (Lexeme w.kind w.own ∷ ps) (w.own ++ more) [] = (more, refl, token_stands names symbols annexes w ws rest s, later) in
     let b = joined || joins_before w in
     let whole = read_gap b (Lexeme w.kind w.own ∷ ps) (w.own ++ more) here in
     subst (λ (z : List Piece). AreRead Aadl z (words_bytes joined (w ∷ ws) ++ (10 ∷ rest)) []) (sym (regroup_pieces (gap b) (Lexeme w.kind w.own) (words_pieces (joins_behind w) ws) (Space 10 ∷ tail)))
     (subst (λ (z : List ℕ). AreRead Aadl (gap b ++ (Lexeme w.kind w.own ∷ ps)) z []) (sym (regroup (cond b [] (codes " ")) w.own (words_bytes (joins_behind w) ws) (10 ∷ rest))) whole)
 
-read_text : NamesEnd → SymbolsEnd → (lines : List (List Word)) → All IsSoundLine lines → AreRead Aadl (text_pieces lines) (text_bytes lines) []
-read_text names symbols [] s = refl
-read_text names symbols (line ∷ lines) s =
-    let later = read_text names symbols lines (All-tail IsSoundLine line lines s) in
-    let whole = read_words names symbols true line (text_pieces lines) (text_bytes lines) (All-head IsSoundLine line lines s) later in
+read_text : NamesEnd → SymbolsEnd → AnnexesEnd → (lines : List (List Word)) → All IsSoundLine lines → AreRead Aadl (text_pieces lines) (text_bytes lines) []
+read_text names symbols annexes [] s = refl
+read_text names symbols annexes (line ∷ lines) s =
+    let later = read_text names symbols annexes lines (All-tail IsSoundLine line lines s) in
+    let whole = read_words names symbols annexes true line (text_pieces lines) (text_bytes lines) (All-head IsSoundLine line lines s) later in
     subst (λ (z : List Piece). AreRead Aadl z (text_bytes (line ∷ lines)) []) (sym (append_assoc (words_pieces true line) (Space 10 ∷ []) (text_pieces lines)))
     (subst (λ (z : List ℕ). AreRead Aadl (words_pieces true line ++ (Space 10 ∷ text_pieces lines)) z []) (sym (append_assoc (words_bytes true line) (10 ∷ []) (text_bytes lines))) whole)
 
@@ -89,6 +89,7 @@ fine_gap false = (tt, tt)
 fine_word : (k : TokenKind) (own : List ℕ) → IsSpelled k own → IsFine Aadl (Lexeme k own)
 fine_word Name own s = s.1
 fine_word Symbol own s = tt
+fine_word Annex own s = tt
 fine_word _ own s = absurd s
 
 fine_words : (joined : Bool) (ws : List Word) → IsSoundLine ws → AreFine Aadl (words_pieces joined ws)
@@ -121,35 +122,37 @@ name_ascii (b ∷ bs) h =
     let parts = and_parts (is_ascii_alphabetic b) (list_all is_word_byte bs) h in
     IsAscii-cons b bs (letter_ascii b parts.0) (words_ascii bs parts.1)
 
-abbrev all_low : List ℕ → Bool
+abbrev pub all_low : List ℕ → Bool
 all_low bs = list_all (λ b. ltb b 128) bs
 
-low_ascii : (bs : List ℕ) → all_low bs ≡ true → IsAscii bs
+pub low_ascii : (bs : List ℕ) → all_low bs ≡ true → IsAscii bs
 low_ascii [] h = IsAscii-nil
 low_ascii (b ∷ bs) h =
     let parts = and_parts (ltb b 128) (all_low bs) h in
     IsAscii-cons b bs (ltb-true b 128 parts.0) (low_ascii bs parts.1)
 
-own_ascii : (k : TokenKind) (own : List ℕ) → IsSpelled k own → IsAscii own
+own_text : (k : TokenKind) (own : List ℕ) → IsSpelled k own → IsUtf8 own
 unfolding package_symbols
-own_ascii Name own s = name_ascii own s.0
-own_ascii Symbol own s = low_ascii own (passes all_low own package_symbols refl s)
-own_ascii _ own s = absurd s
+own_text Name own s = IsUtf8-from_ascii own (name_ascii own s.0)
+own_text Symbol own s = IsUtf8-from_ascii own (low_ascii own (passes all_low own package_symbols refl s))
+own_text Annex own s = s.1
+own_text _ own s = absurd s
 
-gap_ascii : (joined : Bool) → IsAscii (cond joined [] (codes " "))
-gap_ascii true = IsAscii-nil
-gap_ascii false = low_ascii (codes " ") refl
+gap_text : (joined : Bool) → IsUtf8 (cond joined [] (codes " "))
+gap_text true = IsUtf8-from_ascii [] IsAscii-nil
+gap_text false = IsUtf8-from_ascii (codes " ") (low_ascii (codes " ") refl)
 
-words_text : (joined : Bool) (ws : List Word) → IsSoundLine ws → IsAscii (words_bytes joined ws)
-words_text joined [] s = IsAscii-nil
+words_text : (joined : Bool) (ws : List Word) → IsSoundLine ws → IsUtf8 (words_bytes joined ws)
+words_text joined [] s = IsUtf8-from_ascii [] IsAscii-nil
 words_text joined (w ∷ ws) s =
-    IsAscii-append (cond (joined || joins_before w) [] (codes " ")) (w.own ++ words_bytes (joins_behind w) ws) (gap_ascii (joined || joins_before w))
-    (IsAscii-append w.own (words_bytes (joins_behind w) ws) (own_ascii w.kind w.own s.0) (words_text (joins_behind w) ws s.2))
+    IsUtf8-append (cond (joined || joins_before w) [] (codes " ")) (w.own ++ words_bytes (joins_behind w) ws) (gap_text (joined || joins_before w))
+    (IsUtf8-append w.own (words_bytes (joins_behind w) ws) (own_text w.kind w.own s.0) (words_text (joins_behind w) ws s.2))
 
-all_ascii : (lines : List (List Word)) → All IsSoundLine lines → IsAscii (text_bytes lines)
-all_ascii [] s = IsAscii-nil
-all_ascii (line ∷ lines) s =
-    IsAscii-append (line_bytes line) (text_bytes lines) (IsAscii-append (words_bytes true line) (codes "\n") (words_text true line (All-head IsSoundLine line lines s)) (low_ascii (codes "\n") refl)) (all_ascii lines (All-tail IsSoundLine line lines s))
+all_text : (lines : List (List Word)) → All IsSoundLine lines → IsUtf8 (text_bytes lines)
+all_text [] s = IsUtf8-from_ascii [] IsAscii-nil
+all_text (line ∷ lines) s =
+    let end = IsUtf8-from_ascii (codes "\n") (low_ascii (codes "\n") refl) in
+    IsUtf8-append (line_bytes line) (text_bytes lines) (IsUtf8-append (words_bytes true line) (codes "\n") (words_text true line (All-head IsSoundLine line lines s)) end) (all_text lines (All-tail IsSoundLine line lines s))
 
 -- ---- the tokens are the words
 
@@ -196,10 +199,10 @@ all_words (line ∷ lines) =
 
 -- ---- the law
 
-pub lines_read : NamesEnd → SymbolsEnd → PiecesKeep → (file : ℕ) (lines : List (List Word)) → All IsSoundLine lines
+pub lines_read : NamesEnd → SymbolsEnd → AnnexesEnd → PiecesKeep → (file : ℕ) (lines : List (List Word)) → All IsSoundLine lines
     → (tokens : List Token) × AreKept Aadl file [] (text_bytes lines) tokens × (map (word_at (text_bytes lines)) tokens ≡ words_of lines)
-lines_read names symbols keep file lines s =
+lines_read names symbols annexes keep file lines s =
     let text = text_bytes lines in
     let pieces = text_pieces lines in
-    let read = read_text names symbols lines s in
-    (tokens_of file [] pieces, keep Aadl file [] text pieces read (fine_text lines s) (λ e. IsUtf8-from_ascii text (all_ascii lines s)), told file text [] text pieces refl read ∙ all_words lines)
+    let read = read_text names symbols annexes lines s in
+    (tokens_of file [] pieces, keep Aadl file [] text pieces read (fine_text lines s) (λ e. all_text lines s), told file text [] text pieces refl read ∙ all_words lines)

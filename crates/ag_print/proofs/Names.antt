@@ -9,7 +9,8 @@ use Rattle.ag_aadl.specs.declared.packages.Ident.{Ident}
 use Rattle.ag_aadl.specs.Marks.{unmarked, part_mark, join_mark, class_body_mark}
 use Rattle.ag_aadl.specs.Nonterminals.{pname, more_names, some_class, some_body, some_braces}
 use Rattle.ag_aadl.specs.Terminals.{colons, dot}
-use Rattle.ag_print.specs.Canonical.{put_before, name_parts, more_parts, parts_words, pname_words, body_words, package_parts, class_words}
+use Rattle.ag_aadl.specs.Names.{put_before, name_parts}
+use Rattle.ag_print.specs.Canonical.{more_parts, parts_words, pname_words, body_words, package_parts, class_words}
 use Rattle.ag_print.specs.Printable.{is_plain_name, is_printable_ident, is_printable_option, is_printable_package_name, is_printable_owner, is_printable_class}
 use Rattle.ag_print.proofs.Spells.{Spells, nothing, beside, by_line, by_name, by_sign}
 use Rattle.ag_print.proofs.Words.{is_colons, is_dot}

@@ -31,15 +31,16 @@ is_plain_text kind text = not (terminal_of kind text == name) || is_plain_name t
 no_name : (b : Bool) (x : ℕ) → not (x == name) ≡ true → (not (x == name) || b) ≡ true
 no_name b x h = rw h refl
 
-other_if : (b : Bool) (x y : ℕ) → not (x == name) ≡ true → not (y == name) ≡ true → not ((if b then x else y) == name) ≡ true
-other_if true x y f g = f
-other_if false x y f g = g
+other_if : (z : ℕ) (b : Bool) (x y : ℕ) → not (x == z) ≡ true → not (y == z) ≡ true → not ((if b then x else y) == z) ≡ true
+other_if z true x y f g = f
+other_if z false x y f g = g
 
-listed_other : (es : List (List ℕ × ℕ)) (o : ℕ) (text : List ℕ) → list_all (λ e. not (e.1 == name)) es ≡ true → not (o == name) ≡ true → not (listed es o text == name) ≡ true
-listed_other [] o text all h = h
-listed_other (e ∷ es) o text all h =
-    let parts = and_parts (not (e.1 == name)) (list_all (λ f. not (f.1 == name)) es) all in
-    other_if _ e.1 (listed es o text) parts.0 (listed_other es o text parts.1 h)
+-- what stands in a list is another than one that doesn't
+pub listed_other : (z : ℕ) (es : List (List ℕ × ℕ)) (o : ℕ) (text : List ℕ) → list_all (λ e. not (e.1 == z)) es ≡ true → not (o == z) ≡ true → not (listed es o text == z) ≡ true
+listed_other z [] o text all h = h
+listed_other z (e ∷ es) o text all h =
+    let parts = and_parts (not (e.1 == z)) (list_all (λ f. not (f.1 == z)) es) all in
+    other_if z _ e.1 (listed es o text) parts.0 (listed_other z es o text parts.1 h)
 
 symbols_other : list_all (λ e. not (e.1 == name)) known_symbols ≡ true
 unfolding known_symbols
@@ -60,7 +61,7 @@ plain_text Number text after is short = refl
 plain_text Real text after is short = refl
 plain_text Text text after is short = refl
 plain_text Annex text after is short = refl
-plain_text Symbol text after is short = no_name (is_plain_name text) (listed known_symbols other_token text) (listed_other known_symbols other_token text symbols_other refl)
+plain_text Symbol text after is short = no_name (is_plain_name text) (listed known_symbols other_token text) (listed_other name known_symbols other_token text symbols_other refl)
 
 -- ---- all tokens
 

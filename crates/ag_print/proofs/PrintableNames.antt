@@ -14,7 +14,7 @@ use Rattle.ag_aadl.specs.Marks.{part_mark, class_body_mark}
 use Rattle.ag_aadl.specs.Meaning.{joined, ident_under, ident_of, some_ident, path_of, class_of}
 use Rattle.ag_aadl.specs.Terminals.{name}
 use Rattle.ag_aadl.specs.Words.{terminal_of}
-use Rattle.ag_print.specs.Canonical.{put_before, name_parts}
+use Rattle.ag_aadl.specs.Names.{put_before, name_parts}
 use Rattle.ag_print.specs.Printable.{is_plain_name, is_printable_ident, is_printable_option, is_printable_package_name, is_printable_owner, is_printable_class}
 use Rattle.ag_print.proofs.Fitting.{is_name_mark, is_fit}
 use Rattle.ag_print.proofs.Segmented.{given, some_under}

@@ -1,13 +1,12 @@
--- The packages of a file are printable, if no annex stands in them.
-use Rattle.std.proofs.Common.{◌≡◌, ℕ, Bool, true, false, ◌==◌, ◌&&◌, ◌||◌, not, if◌then◌else◌, List, [], ◌∷◌, ◌++◌, map, Some, None, refl, sym, ap, subst, ◌∙◌, inl, inr}
-use Rattle.std.specs.List.{list_all, filter, flat_map}
+-- The packages of a file are printable.
+use Rattle.std.proofs.Common.{◌≡◌, ℕ, Bool, true, false, ◌==◌, ◌&&◌, ◌||◌, not, if◌then◌else◌, List, [], ◌∷◌, map, Some, None, refl, sym, ap, subst, ◌∙◌, inl, inr}
+use Rattle.std.specs.List.{list_all, filter}
 use Rattle.std.proofs.lemmas.Bool.{and_parts, and_from, or_cases, or_left, or_right, eqb-true, eq-eqb}
 use Rattle.std.proofs.lemmas.List.Folds.{list_all-map}
 use Rattle.ag_lex.specs.declared.token.Token.{Token}
 use Rattle.ag_lex.specs.Answers.{AreKept}
 use Rattle.ag_lex.specs.declared.token.Language.TheVariants.{Aadl}
 use Rattle.ag_aadl.specs.declared.marked.Marked.{Marked}
-use Rattle.ag_aadl.specs.declared.packages.Item.{Item}
 use Rattle.ag_aadl.specs.declared.packages.Item.TheVariants as item
 use Rattle.ag_aadl.specs.declared.packages.Package.{Package}
 use Rattle.ag_aadl.specs.Files.{IsFile}
@@ -15,8 +14,7 @@ use Rattle.ag_aadl.specs.Marked.{marked, has_mark, is_among, up_to, segments}
 use Rattle.ag_aadl.specs.Marks.{unmarked, package_mark, part_mark, import_mark, item_mark, owner_mark, declared_mark, feature_mark, direction_mark, spot_mark}
 use Rattle.ag_aadl.specs.Meaning.{ident_under, name_of, is_agree, annex_of, frame_of, body_of, item_of, begins_with, parts_of_package, part_at, package_of, packages_of, port_of, ports_of, subs_of, wires_of}
 use Rattle.ag_aadl.specs.Words.{terminals_of}
-use Rattle.ag_print.specs.Annexes.{item_annexes, package_annexes, first_token, first_annex}
-use Rattle.ag_print.specs.Printable.{is_printable_ident, is_printable_package_name, is_printable_port, is_printable_sub, is_printable_wire, is_printable_item, is_printable_package, are_printable, is_empty}
+use Rattle.ag_print.specs.Printable.{is_printable_ident, is_printable_package_name, is_printable_port, is_printable_sub, is_printable_wire, is_printable_item, is_printable_package, are_printable}
 use Rattle.ag_print.proofs.Fitting.{is_fit, text_fits}
 use Rattle.ag_print.proofs.PlainTokens.{plain_tokens}
 use Rattle.ag_print.proofs.PrintableNames.{first_plain, pname_plain}
@@ -61,13 +59,7 @@ declared_behind (m ∷ ms) s walks has =
 
 -- ---- items
 
--- a printable item, whatever annexes it has
-abbrev is_plain_item : Item → Bool
-is_plain_item (item.Frame f) = is_printable_ident f.name && list_all is_printable_port f.ports
-is_plain_item (item.Body b) = is_printable_ident b.frame && (is_printable_ident b.name && (list_all is_printable_sub b.subs && list_all is_printable_wire b.wires))
-is_plain_item (item.Library t) = true
-
-frame_plain : (bytes : List ℕ) (head : Marked) (rest : List Marked) → Walked (is_fit bytes) part_marks head rest → head.mark ≡ item_mark → has_mark declared_mark (head ∷ rest) ≡ true → is_plain_item (item.Frame (frame_of bytes (head ∷ rest))) ≡ true
+frame_plain : (bytes : List ℕ) (head : Marked) (rest : List Marked) → Walked (is_fit bytes) part_marks head rest → head.mark ≡ item_mark → has_mark declared_mark (head ∷ rest) ≡ true → is_printable_item (item.Frame (frame_of bytes (head ∷ rest))) ≡ true
 frame_plain bytes head rest w is_item has =
     let fit = (and_parts (is_fit bytes head) (list_all (is_fit bytes) rest) w.segment.all).1 in
     let inner = all_both (is_fit bytes) (is_free part_marks) rest fit w.segment.free in
@@ -80,7 +72,7 @@ frame_plain bytes head rest w is_item has =
         → map (port_of bytes) (filter (has_mark direction_mark) (if is_among (feature_mark ∷ []) k then (head ∷ up_to (feature_mark ∷ []) rest) ∷ segments (feature_mark ∷ []) rest else segments (feature_mark ∷ []) rest)) ≡ ports_of bytes rest
     no_port k e = ap (λ (z : ℕ). map (port_of bytes) (filter (has_mark direction_mark) (if is_among (feature_mark ∷ []) z then (head ∷ up_to (feature_mark ∷ []) rest) ∷ segments (feature_mark ∷ []) rest else segments (feature_mark ∷ []) rest))) e
 
-body_plain : (bytes : List ℕ) (head : Marked) (rest : List Marked) → Walked (is_fit bytes) part_marks head rest → has_mark owner_mark (head ∷ rest) ≡ true → is_plain_item (item.Body (body_of bytes (head ∷ rest))) ≡ true
+body_plain : (bytes : List ℕ) (head : Marked) (rest : List Marked) → Walked (is_fit bytes) part_marks head rest → has_mark owner_mark (head ∷ rest) ≡ true → is_printable_item (item.Body (body_of bytes (head ∷ rest))) ≡ true
 body_plain bytes head rest w has =
     let ms = head ∷ rest in
     let declared = declared_behind ms w.before w.walks has in
@@ -90,20 +82,17 @@ body_plain bytes head rest w has =
     (and_from (is_printable_ident (ident_under bytes declared_mark ms)) (subs && wires) (first_plain bytes declared_mark ms refl w.segment.all declared)
     (and_from subs wires (subs_plain bytes ms w.segment.all) (wires_plain bytes ms w.before w.walks w.segment.all)))
 
-item_plain : (bytes : List ℕ) (head : Marked) (rest : List Marked) → Walked (is_fit bytes) part_marks head rest → head.mark ≡ item_mark → passes_if_some is_plain_item (item_of bytes (head ∷ rest)) ≡ true
+item_plain : (bytes : List ℕ) (head : Marked) (rest : List Marked) → Walked (is_fit bytes) part_marks head rest → head.mark ≡ item_mark → passes_if_some is_printable_item (item_of bytes (head ∷ rest)) ≡ true
 item_plain bytes head rest w is_item = go (has_mark owner_mark (head ∷ rest)) (has_mark declared_mark (head ∷ rest)) (is_agree bytes (head ∷ rest)) refl refl
   where
     go : (b c d : Bool) → has_mark owner_mark (head ∷ rest) ≡ b → has_mark declared_mark (head ∷ rest) ≡ c
-        → passes_if_some is_plain_item (if b then Some (item.Body (body_of bytes (head ∷ rest))) else (if c then Some (item.Frame (frame_of bytes (head ∷ rest))) else (if d then Some (item.Library (annex_of (head ∷ rest))) else None))) ≡ true
+        → passes_if_some is_printable_item (if b then Some (item.Body (body_of bytes (head ∷ rest))) else (if c then Some (item.Frame (frame_of bytes (head ∷ rest))) else (if d then Some (item.Library (annex_of (head ∷ rest))) else None))) ≡ true
     go true c d e f = body_plain bytes head rest w e
     go false true d e f = frame_plain bytes head rest w is_item f
     go false false true e f = refl
     go false false false e f = refl
 
 -- ---- packages
-
-abbrev is_plain_package : Package → Bool
-is_plain_package p = is_printable_package_name p.name && (list_all is_printable_package_name p.imports && list_all is_plain_item p.items)
 
 open_from : (s : Situation) (k : ℕ) → is_calm s ≡ true → opens k ≡ true → move s k ≡ BehindOpening
 open_from Quiet k calm h = ap (λ (z : Bool). if z then BehindOpening else (if is_among (owner_mark ∷ []) k then BehindOwner else (if is_among (spot_mark ∷ []) k then BehindSpot else (if is_among (feature_mark ∷ []) k then BehindFeature else Quiet)))) h
@@ -139,10 +128,10 @@ import_plain bytes head rest w =
     let opened = subst (λ (z : ℕ). opens z ≡ true) (sym (eqb-true head.mark import_mark e)) refl in
     name_plain bytes head rest w.before w.calm opened w.walks w.segment.all)
 
-item_if : (bytes : List ℕ) (head : Marked) (rest : List Marked) → Walked (is_fit bytes) part_marks head rest → (not (begins_with item_mark (head ∷ rest)) || passes_if_some is_plain_item (item_of bytes (head ∷ rest))) ≡ true
-item_if bytes head rest w = provided (head.mark == item_mark) (passes_if_some is_plain_item (item_of bytes (head ∷ rest))) (λ e. item_plain bytes head rest w (eqb-true head.mark item_mark e))
+item_if : (bytes : List ℕ) (head : Marked) (rest : List Marked) → Walked (is_fit bytes) part_marks head rest → (not (begins_with item_mark (head ∷ rest)) || passes_if_some is_printable_item (item_of bytes (head ∷ rest))) ≡ true
+item_if bytes head rest w = provided (head.mark == item_mark) (passes_if_some is_printable_item (item_of bytes (head ∷ rest))) (λ e. item_plain bytes head rest w (eqb-true head.mark item_mark e))
 
-package_plain : (bytes : List ℕ) (head : Marked) (rest : List Marked) → Walked (is_fit bytes) (package_mark ∷ []) head rest → is_plain_package (package_of bytes (head ∷ rest)) ≡ true
+package_plain : (bytes : List ℕ) (head : Marked) (rest : List Marked) → Walked (is_fit bytes) (package_mark ∷ []) head rest → is_printable_package (package_of bytes (head ∷ rest)) ≡ true
 package_plain bytes head rest w =
     let ms = head ∷ rest in
     let parts = parts_of_package ms in
@@ -154,68 +143,20 @@ package_plain bytes head rest w =
     let name_is = subst (λ (z : List Marked). is_printable_package_name (name_of bytes z) ≡ true) (sym (first_piece head rest is_package)) first in
     let imports = kept_pass is_printable_package_name (name_of bytes) (begins_with import_mark) parts
     (each_walked (is_fit bytes) part_marks (λ p. not (begins_with import_mark p) || is_printable_package_name (name_of bytes p)) refl (import_plain bytes) ms w.before w.walks w.segment.all) in
-    let items = kept_map_pass is_plain_item (item_of bytes) (begins_with item_mark) parts
-    (each_walked (is_fit bytes) part_marks (λ p. not (begins_with item_mark p) || passes_if_some is_plain_item (item_of bytes p)) refl (item_if bytes) ms w.before w.walks w.segment.all) in
+    let items = kept_map_pass is_printable_item (item_of bytes) (begins_with item_mark) parts
+    (each_walked (is_fit bytes) part_marks (λ p. not (begins_with item_mark p) || passes_if_some is_printable_item (item_of bytes p)) refl (item_if bytes) ms w.before w.walks w.segment.all) in
     let p = package_of bytes ms in
-    and_from (is_printable_package_name p.name) (list_all is_printable_package_name p.imports && list_all is_plain_item p.items) name_is (and_from (list_all is_printable_package_name p.imports) (list_all is_plain_item p.items) imports items)
+    and_from (is_printable_package_name p.name) (list_all is_printable_package_name p.imports && list_all is_printable_item p.items) name_is (and_from (list_all is_printable_package_name p.imports) (list_all is_printable_item p.items) imports items)
 
-packages_plain : (bytes : List ℕ) (ms : List Marked) → accepted Quiet ms ≡ true → list_all (is_fit bytes) ms ≡ true → list_all is_plain_package (packages_of bytes ms) ≡ true
+packages_plain : (bytes : List ℕ) (ms : List Marked) → accepted Quiet ms ≡ true → list_all (is_fit bytes) ms ≡ true → list_all is_printable_package (packages_of bytes ms) ≡ true
 packages_plain bytes ms walks fit =
-    list_all-map is_plain_package (package_of bytes) (segments (package_mark ∷ []) ms)
-    ∙ each_walked (is_fit bytes) (package_mark ∷ []) (λ p. is_plain_package (package_of bytes p)) refl (package_plain bytes) ms Quiet walks fit
+    list_all-map is_printable_package (package_of bytes) (segments (package_mark ∷ []) ms)
+    ∙ each_walked (is_fit bytes) (package_mark ∷ []) (λ p. is_printable_package (package_of bytes p)) refl (package_plain bytes) ms Quiet walks fit
 
--- ---- no annexes
-
-none_left : {A : Type 0} (a b : List A) → a ++ b ≡ [] → (a ≡ []) × (b ≡ [])
-none_left [] b e = (refl, e)
-none_left (x ∷ a) b e = absurd cc
-
-first_none : (ts : List Token) → first_token ts ≡ None → ts ≡ []
-first_none [] e = refl
-first_none (t ∷ ts) e = absurd cc
-
-empty : (ts : List Token) → ts ≡ [] → is_empty ts ≡ true
-empty ts e = ap is_empty e
-
-item_whole : (i : Item) → is_plain_item i ≡ true → item_annexes i ≡ [] → is_printable_item i ≡ true
-item_whole (item.Frame f) h e =
-    let parts = and_parts (is_printable_ident f.name) (list_all is_printable_port f.ports) h in
-    and_from (is_printable_ident f.name) (list_all is_printable_port f.ports && is_empty f.annexes) parts.0 (and_from (list_all is_printable_port f.ports) (is_empty f.annexes) parts.1 (empty f.annexes e))
-item_whole (item.Body b) h e =
-    let subs = list_all is_printable_sub b.subs in
-    let wires = list_all is_printable_wire b.wires in
-    let one = and_parts (is_printable_ident b.frame) (is_printable_ident b.name && (subs && wires)) h in
-    let two = and_parts (is_printable_ident b.name) (subs && wires) one.1 in
-    let three = and_parts subs wires two.1 in
-    and_from (is_printable_ident b.frame) (is_printable_ident b.name && (subs && (wires && is_empty b.annexes))) one.0
-    (and_from (is_printable_ident b.name) (subs && (wires && is_empty b.annexes)) two.0
-    (and_from subs (wires && is_empty b.annexes) three.0
-    (and_from wires (is_empty b.annexes) three.1 (empty b.annexes e))))
-item_whole (item.Library t) h e = absurd cc
-
-items_whole : (items : List Item) → list_all is_plain_item items ≡ true → flat_map item_annexes items ≡ [] → list_all is_printable_item items ≡ true
-items_whole [] h e = refl
-items_whole (i ∷ items) h e =
-    let parts = and_parts (is_plain_item i) (list_all is_plain_item items) h in
-    let none = none_left (item_annexes i) (flat_map item_annexes items) e in
-    and_from (is_printable_item i) (list_all is_printable_item items) (item_whole i parts.0 none.0) (items_whole items parts.1 none.1)
-
-packages_whole : (ps : List Package) → list_all is_plain_package ps ≡ true → flat_map package_annexes ps ≡ [] → are_printable ps ≡ true
-packages_whole [] h e = refl
-packages_whole (p ∷ ps) h e =
-    let parts = and_parts (is_plain_package p) (list_all is_plain_package ps) h in
-    let none = none_left (package_annexes p) (flat_map package_annexes ps) e in
-    let imports = list_all is_printable_package_name p.imports in
-    let one = and_parts (is_printable_package_name p.name) (imports && list_all is_plain_item p.items) parts.0 in
-    let two = and_parts imports (list_all is_plain_item p.items) one.1 in
-    let whole = and_from (is_printable_package_name p.name) (imports && list_all is_printable_item p.items) one.0 (and_from imports (list_all is_printable_item p.items) two.0 (items_whole p.items two.1 none.0)) in
-    and_from (is_printable_package p) (are_printable ps) whole (packages_whole ps parts.1 none.1)
-
--- the packages of a file are printable, if no annex stands in them
-pub files_are_printable : (file : ℕ) (bytes : List ℕ) (tokens : List Token) (packages : List Package) → AreKept Aadl file [] bytes tokens → IsFile bytes tokens packages → first_annex packages ≡ None → are_printable packages ≡ true
-files_are_printable file bytes tokens packages kept read none =
+-- the packages of a file are printable
+pub files_are_printable : (file : ℕ) (bytes : List ℕ) (tokens : List Token) (packages : List Package) → AreKept Aadl file [] bytes tokens → IsFile bytes tokens packages → are_printable packages ≡ true
+files_are_printable file bytes tokens packages kept read =
     let ms = marked (terminals_of bytes tokens) tokens read.steps in
     let walks = text_walks bytes read.steps tokens read.text in
     let fit = text_fits bytes read.steps tokens read.text (plain_tokens file bytes tokens kept) in
-    let plain = subst (λ (z : List Package). list_all is_plain_package z ≡ true) (sym read.told) (packages_plain bytes ms walks fit) in
-    packages_whole packages plain (first_none (flat_map package_annexes packages) none)
+    subst (λ (z : List Package). are_printable z ≡ true) (sym read.told) (packages_plain bytes ms walks fit)

@@ -1,5 +1,5 @@
 -- The words of canonical lines declare the packages that they are made of.
-use Rattle.std.proofs.Common.{◌≡◌, ℕ, Bool, true, false, not, cond, ◌&&◌, List, [], ◌∷◌, ◌++◌, map, refl, sym, ap, ◌∙◌}
+use Rattle.std.proofs.Common.{◌≡◌, ℕ, Bool, true, false, not, cond, List, [], ◌∷◌, ◌++◌, map, refl, sym, ap, ◌∙◌}
 use Rattle.std.specs.Prelude.{◌==◌, Option, Some, None, codes}
 use Rattle.std.specs.List.{filter, filter_map, flat_map, list_all}
 use Rattle.std.proofs.lemmas.Bool.{and_parts}
@@ -19,22 +19,25 @@ use Rattle.ag_aadl.specs.declared.packages.Body.{Body}
 use Rattle.ag_aadl.specs.declared.packages.Item.{Item}
 use Rattle.ag_aadl.specs.declared.packages.Item.TheVariants as item
 use Rattle.ag_aadl.specs.declared.packages.Package.{Package}
-use Rattle.ag_aadl.specs.Marks.{package_mark, part_mark, join_mark, import_mark, item_mark, owner_mark, declared_mark, feature_mark, direction_mark, event_mark, data_mark, class_body_mark, sub_mark, kind_mark, connection_mark, spot_mark, spot_port_mark, end_mark, end_owner_mark, end_name_mark, close_mark, features_mark, subcomponents_mark, connections_mark}
+use Rattle.ag_aadl.specs.Marks.{package_mark, part_mark, join_mark, import_mark, item_mark, owner_mark, declared_mark, feature_mark, direction_mark, event_mark, data_mark, class_body_mark, sub_mark, kind_mark, connection_mark, spot_mark, spot_port_mark, annex_name_mark, annex_text_mark, end_mark, end_owner_mark, end_name_mark, close_mark, features_mark, subcomponents_mark, connections_mark}
 use Rattle.ag_aadl.specs.Meaning.{kind_of}
 use Rattle.ag_aadl.specs.Words.{same, reserved_words}
-use Rattle.ag_print.specs.Canonical.{Spelled, name_at, word, name_parts, pname_words, class_words, category_word, semicolon, port_line, sub_line, wire_line, import_line}
-use Rattle.ag_print.specs.Printable.{is_printable_item, is_printable_package, is_printable_package_name}
-use Rattle.ag_print.specs.Same.{bare_ident, bare_class, bare_port, bare_frame, bare_sub, bare_wire, bare_body, bare_item, bare_package}
+use Rattle.ag_aadl.specs.Names.{name_parts}
+use Rattle.ag_print.specs.Canonical.{Spelled, name_at, word, pname_words, class_words, category_word, semicolon, port_line, sub_line, wire_line, annex_line, first_list, other_lists, import_line}
+use Rattle.ag_annex.specs.declared.clauses.Clause.{Clause}
+use Rattle.ag_print.specs.Annexes.{Stated}
+use Rattle.ag_unparse.specs.Same.{bare_ident}
+use Rattle.ag_print.specs.Same.{bare_class, bare_port, bare_frame, bare_sub, bare_wire, bare_body, bare_item, bare_package}
 use Rattle.ag_print.proofs.RereadingSeen.{Seen, texts, has, until, pieces, named, join, class_in, category_in, outward_in, port_in, listed_in, sub_in, wire_in, frame_in, body_in, item_in, begins, package_name_in, parts_in, package_of_parts, package_in, packages_in, two, three, four}
 use Rattle.ag_print.proofs.RereadingPieces.{among, within, free, all_both, seen_passes, texts_lacking, has_lacking, outward_lacking, pieces_free, until_within, BeginsAlone, piece_of, flat_pieces, listed_back}
-use Rattle.ag_print.proofs.RereadingLines.{seen, behind_first, section_words, frame_end, features, frame_words, body_end, subcomponents, connections, implementation_words, item_words, head_words, close_words, package_words, map_flat, marks_within, seen_within, seen_all, wider, join_marks, name_set, class_set, port_set, sub_set, wire_set, wires_set, subs_set, ports_set, end_set, inner_set, package_set, class_marks, port_marks, sub_marks, wire_marks, connections_marks, subcomponents_marks, features_marks, item_marks, import_marks, head_marks, close_marks, package_marks}
+use Rattle.ag_print.proofs.RereadingLines.{seen, behind_first, section_words, paired, frame_tail, features, frame_words, subcomponents, connections, body_rest, implementation_words, words_of_item, item_words, items_of, head_words, close_words, package_words, map_flat, marks_within, seen_within, seen_all, wider, join_marks, name_set, class_set, port_set, sub_set, wire_set, wires_set, subs_set, ports_set, end_set, inner_set, package_set, class_marks, port_marks, sub_marks, wire_marks, connections_marks, subcomponents_marks, features_marks, frame_tail_marks, body_rest_marks, item_marks, import_marks, head_marks, close_marks, package_marks}
 use Rattle.ag_print.proofs.RereadingNames.{join_parts, texts_parts, texts_before, class_back}
 
 -- ---- ports
 
 -- what stands behind the lines of a section: the other section, and the end
 abbrev tail_set : List ℕ
-tail_set = end_owner_mark ∷ end_name_mark ∷ wires_set
+tail_set = annex_name_mark ∷ annex_text_mark ∷ end_owner_mark ∷ end_name_mark ∷ wires_set
 
 -- a classifier, and what stands behind it
 abbrev class_tail : Option Path → List Seen → List Seen
@@ -178,54 +181,65 @@ item_category Thread ss = refl
 item_category Device ss = refl
 item_category Abstract ss = refl
 
-frame_back : (f : Frame) → frame_in (map seen (frame_words f)) ≡ bare_frame f
-frame_back f =
-    three (λ c n p. record { category = c; name = n; ports = p; annexes = [] }) (item_category f.category (behind_first (frame_words f))) refl
-    (ap (listed_in (feature_mark ∷ []) direction_mark port_in) (map-append seen (features f) (frame_end f))
-    ∙ section_back (feature_mark ∷ []) direction_mark tail_set (name_at features_mark (codes "features")) port_line port_in bare_port refl port_alone (λ (p : Port) (t : List Seen). refl) port_back (map seen (frame_end f)) refl refl f.ports)
+frame_back : (f : Frame) (clauses : List Clause) → frame_in (map seen (frame_words f clauses)) ≡ bare_frame f
+frame_back f clauses =
+    let ks = feature_mark ∷ [] in
+    let tail = map seen (frame_tail f clauses) in
+    three (λ c n p. record { category = c; name = n; ports = p; annexes = [] }) (item_category f.category (behind_first (frame_words f clauses))) refl
+    (ap (listed_in ks direction_mark port_in) (map-append seen (features f) (frame_tail f clauses))
+    ∙ section_back ks direction_mark tail_set (name_at features_mark (codes "features")) port_line port_in bare_port refl port_alone (λ (p : Port) (t : List Seen). refl) port_back tail
+    (pieces_none ks tail (seen_all end_set (λ (k : ℕ). not (among ks k)) (frame_tail f clauses) refl (frame_tail_marks f clauses)))
+    (until_within ks tail_set tail (seen_within tail_set (frame_tail f clauses) (wider end_set tail_set (frame_tail f clauses) refl (frame_tail_marks f clauses)))) f.ports)
 
-abbrev body_tail : Body → List Spelled
-body_tail b = connections b ++ body_end b
+abbrev body_tail : Body → List Clause → List Spelled
+body_tail b clauses = connections b ++ body_rest b clauses
 
-body_tail_marks : (b : Body) → marks_within tail_set (body_tail b) ≡ true
-body_tail_marks b = join_marks tail_set (connections b) (body_end b) (wider wires_set tail_set (connections b) refl (connections_marks b)) refl
+body_tail_marks : (b : Body) (clauses : List Clause) → marks_within tail_set (body_tail b clauses) ≡ true
+body_tail_marks b clauses =
+    join_marks tail_set (connections b) (body_rest b clauses) (wider wires_set tail_set (connections b) refl (connections_marks b)) (wider end_set tail_set (body_rest b clauses) refl (body_rest_marks b clauses))
 
-subs_back : (b : Body) → listed_in (sub_mark ∷ []) kind_mark sub_in (map seen (implementation_words b)) ≡ map bare_sub b.subs
-subs_back b =
-    let tail = map seen (body_tail b) in
-    ap (listed_in (sub_mark ∷ []) kind_mark sub_in) (map-append seen (subcomponents b) (body_tail b))
+subs_back : (b : Body) (clauses : List Clause) → listed_in (sub_mark ∷ []) kind_mark sub_in (map seen (implementation_words b clauses)) ≡ map bare_sub b.subs
+subs_back b clauses =
+    let tail = map seen (body_tail b clauses) in
+    ap (listed_in (sub_mark ∷ []) kind_mark sub_in) (map-append seen (subcomponents b) (body_tail b clauses))
     ∙ section_back (sub_mark ∷ []) kind_mark tail_set (name_at subcomponents_mark (codes "subcomponents")) sub_line sub_in bare_sub refl sub_alone (λ (s : Sub) (t : List Seen). refl) sub_back tail
-    (pieces_none (sub_mark ∷ []) tail (seen_all tail_set (λ (k : ℕ). not (among (sub_mark ∷ []) k)) (body_tail b) refl (body_tail_marks b)))
-    (until_within (sub_mark ∷ []) tail_set tail (seen_within tail_set (body_tail b) (body_tail_marks b))) b.subs
+    (pieces_none (sub_mark ∷ []) tail (seen_all tail_set (λ (k : ℕ). not (among (sub_mark ∷ []) k)) (body_tail b clauses) refl (body_tail_marks b clauses)))
+    (until_within (sub_mark ∷ []) tail_set tail (seen_within tail_set (body_tail b clauses) (body_tail_marks b clauses))) b.subs
 
-wires_back : (b : Body) → listed_in (connection_mark ∷ []) spot_mark wire_in (map seen (implementation_words b)) ≡ map bare_wire b.wires
-wires_back b =
+wires_back : (b : Body) (clauses : List Clause) → listed_in (connection_mark ∷ []) spot_mark wire_in (map seen (implementation_words b clauses)) ≡ map bare_wire b.wires
+wires_back b clauses =
     let ks = connection_mark ∷ [] in
     let subs = map seen (subcomponents b) in
-    ap (listed_in ks spot_mark wire_in) (map-append seen (subcomponents b) (body_tail b))
+    let tail = map seen (body_rest b clauses) in
+    ap (listed_in ks spot_mark wire_in) (map-append seen (subcomponents b) (body_tail b clauses))
     ∙ ap (λ (z : List (List Seen)). map wire_in (filter (has spot_mark) z))
-    (pieces_free ks subs (map seen (body_tail b)) (seen_all subs_set (λ (k : ℕ). not (among ks k)) (subcomponents b) refl (subcomponents_marks b)))
-    ∙ ap (listed_in ks spot_mark wire_in) (map-append seen (connections b) (body_end b))
-    ∙ section_back ks spot_mark end_set (name_at connections_mark (codes "connections")) wire_line wire_in bare_wire refl wire_alone wire_found wire_back (map seen (body_end b)) refl refl b.wires
+    (pieces_free ks subs (map seen (body_tail b clauses)) (seen_all subs_set (λ (k : ℕ). not (among ks k)) (subcomponents b) refl (subcomponents_marks b)))
+    ∙ ap (listed_in ks spot_mark wire_in) (map-append seen (connections b) (body_rest b clauses))
+    ∙ section_back ks spot_mark end_set (name_at connections_mark (codes "connections")) wire_line wire_in bare_wire refl wire_alone wire_found wire_back tail
+    (pieces_none ks tail (seen_all end_set (λ (k : ℕ). not (among ks k)) (body_rest b clauses) refl (body_rest_marks b clauses)))
+    (until_within ks end_set tail (seen_within end_set (body_rest b clauses) (body_rest_marks b clauses))) b.wires
 
-body_back : (b : Body) → body_in (map seen (implementation_words b)) ≡ bare_body b
-body_back b =
+body_back : (b : Body) (clauses : List Clause) → body_in (map seen (implementation_words b clauses)) ≡ bare_body b
+body_back b clauses =
     three (λ c s w. record { category = c; frame = bare_ident b.frame; name = bare_ident b.name; subs = s; wires = w; annexes = [] })
-    (item_category b.category (behind_first (implementation_words b))) (subs_back b) (wires_back b)
+    (item_category b.category (behind_first (implementation_words b clauses))) (subs_back b clauses) (wires_back b clauses)
 
-abbrev frame_set : List ℕ
-frame_set = item_mark ∷ declared_mark ∷ end_name_mark ∷ ports_set
+abbrev pub frame_set : List ℕ
+frame_set = item_mark ∷ declared_mark ∷ annex_name_mark ∷ annex_text_mark ∷ end_owner_mark ∷ end_name_mark ∷ ports_set
 
-frame_marks : (f : Frame) → marks_within frame_set (frame_words f) ≡ true
-frame_marks f = join_marks frame_set (features f) (frame_end f) (wider ports_set frame_set (features f) refl (features_marks f)) refl
+pub frame_marks : (f : Frame) (clauses : List Clause) → marks_within frame_set (frame_words f clauses) ≡ true
+frame_marks f clauses =
+    join_marks frame_set (features f) (frame_tail f clauses) (wider ports_set frame_set (features f) refl (features_marks f)) (wider end_set frame_set (frame_tail f clauses) refl (frame_tail_marks f clauses))
 
-item_back : (i : Item) → is_printable_item i ≡ true → item_in (map seen (item_words i)) ≡ Some (bare_item i)
-item_back (item.Frame f) h =
-    let no_owner = has_lacking owner_mark (map seen (frame_words f)) (seen_all frame_set (λ (k : ℕ). not (k == owner_mark)) (frame_words f) refl (frame_marks f)) in
-    ap (λ (c : Bool). cond c (Some (item.Body (body_in (map seen (frame_words f))))) (Some (item.Frame (frame_in (map seen (frame_words f)))))) no_owner
-    ∙ ap (λ (z : Frame). Some (item.Frame z)) (frame_back f)
-item_back (item.Body b) h = ap (λ (z : Body). Some (item.Body z)) (body_back b)
-item_back (item.Library t) h = absurd cc
+item_back : (i : Item) (clauses : List Clause) → item_in (map seen (words_of_item i clauses)) ≡ Some (bare_item i)
+unfolding same
+item_back (item.Frame f) clauses =
+    let ws = frame_words f clauses in
+    let no_owner = has_lacking owner_mark (map seen ws) (seen_all frame_set (λ (k : ℕ). not (k == owner_mark)) ws refl (frame_marks f clauses)) in
+    ap (λ (c : Bool). cond c (Some (item.Body (body_in (map seen ws)))) (Some (item.Frame (frame_in (map seen ws))))) no_owner
+    ∙ ap (λ (z : Frame). Some (item.Frame z)) (frame_back f clauses)
+item_back (item.Body b) clauses = ap (λ (z : Body). Some (item.Body z)) (body_back b clauses)
+item_back (item.Library t) clauses = refl
 
 -- ---- packages
 
@@ -257,22 +271,28 @@ import_alone i h = record {
   others = seen_all class_set (λ (k : ℕ). not (among part_marks k)) (behind_first (import_line i)) refl (import_marks i);
 }
 
-item_alone : (i : Item) → is_printable_item i ≡ true → BeginsAlone part_marks (map seen (item_words i))
-item_alone (item.Frame f) h = record {
+item_alone : (i : Item) (clauses : List Clause) → BeginsAlone part_marks (map seen (words_of_item i clauses))
+item_alone (item.Frame f) clauses = record {
   head = seen (name_at item_mark (category_word f.category));
-  rest = map seen (behind_first (frame_words f));
+  rest = map seen (behind_first (frame_words f clauses));
   whole = refl;
   first = refl;
-  others = seen_all inner_set (λ (k : ℕ). not (among part_marks k)) (behind_first (frame_words f)) refl (item_marks (item.Frame f));
+  others = seen_all inner_set (λ (k : ℕ). not (among part_marks k)) (behind_first (frame_words f clauses)) refl (item_marks (item.Frame f) clauses);
 }
-item_alone (item.Body b) h = record {
+item_alone (item.Body b) clauses = record {
   head = seen (name_at item_mark (category_word b.category));
-  rest = map seen (behind_first (implementation_words b));
+  rest = map seen (behind_first (implementation_words b clauses));
   whole = refl;
   first = refl;
-  others = seen_all inner_set (λ (k : ℕ). not (among part_marks k)) (behind_first (implementation_words b)) refl (item_marks (item.Body b));
+  others = seen_all inner_set (λ (k : ℕ). not (among part_marks k)) (behind_first (implementation_words b clauses)) refl (item_marks (item.Body b) clauses);
 }
-item_alone (item.Library t) h = absurd cc
+item_alone (item.Library t) clauses = record {
+  head = seen (name_at item_mark (codes "annex"));
+  rest = map seen (behind_first (annex_line item_mark clauses));
+  whole = refl;
+  first = refl;
+  others = refl;
+}
 
 close_alone : (p : Package) → BeginsAlone part_marks (map seen (close_words p))
 close_alone p = record {
@@ -286,36 +306,43 @@ close_alone p = record {
 abbrev seen_imports : Package → List (List Seen)
 seen_imports p = map (λ i. map seen (import_line i)) p.imports
 
-abbrev seen_items : Package → List (List Seen)
-seen_items p = map (λ i. map seen (item_words i)) p.items
+abbrev pub Told_package : Type 0
+Told_package = Package × List (List Clause)
 
-abbrev seen_parts : Package → List (List Seen)
-seen_parts p = map seen (head_words p) ∷ (seen_imports p ++ (seen_items p ++ map seen (close_words p) ∷ []))
+abbrev pub Told_item : Type 0
+Told_item = Item × List Clause
 
-split_package : (p : Package)
-    → map seen (package_words p) ≡ map seen (head_words p) ++ (flat_map (λ i. map seen (import_line i)) p.imports ++ (flat_map (λ i. map seen (item_words i)) p.items ++ map seen (close_words p)))
-split_package p =
-    let imports = flat_map import_line p.imports in
-    let items = flat_map item_words p.items in
-    map-append seen (head_words p) (imports ++ (items ++ close_words p))
-    ∙ ap (λ (z : List Seen). map seen (head_words p) ++ z)
-    (map-append seen imports (items ++ close_words p)
-    ∙ two (λ (y z : List Seen). y ++ z) (map_flat import_line p.imports)
-    (map-append seen items (close_words p) ∙ ap (λ (z : List Seen). z ++ map seen (close_words p)) (map_flat item_words p.items)))
+abbrev pub seen_items : Told_package → List (List Seen)
+seen_items q = map (λ x. map seen (item_words x)) (items_of q)
 
-parts_back : (p : Package) → list_all is_printable_item p.items ≡ true → parts_in (map seen (package_words p)) ≡ seen_parts p
-parts_back p h =
+abbrev seen_parts : Told_package → List (List Seen)
+seen_parts q = map seen (head_words q.0) ∷ (seen_imports q.0 ++ (seen_items q ++ map seen (close_words q.0) ∷ []))
+
+split_package : (q : Told_package)
+    → map seen (package_words q) ≡ map seen (head_words q.0) ++ (flat_map (λ i. map seen (import_line i)) q.0.imports ++ (flat_map (λ x. map seen (item_words x)) (items_of q) ++ map seen (close_words q.0)))
+split_package q =
+    let imports = flat_map import_line q.0.imports in
+    let items = flat_map item_words (items_of q) in
+    map-append seen (head_words q.0) (imports ++ (items ++ close_words q.0))
+    ∙ ap (λ (z : List Seen). map seen (head_words q.0) ++ z)
+    (map-append seen imports (items ++ close_words q.0)
+    ∙ two (λ (y z : List Seen). y ++ z) (map_flat import_line q.0.imports)
+    (map-append seen items (close_words q.0) ∙ ap (λ (z : List Seen). z ++ map seen (close_words q.0)) (map_flat item_words (items_of q))))
+
+parts_back : (q : Told_package) → parts_in (map seen (package_words q)) ≡ seen_parts q
+parts_back q =
+    let p = q.0 in
     let close = map seen (close_words p) in
-    let items = flat_map (λ (i : Item). map seen (item_words i)) p.items ++ close in
+    let items = flat_map (λ (x : Told_item). map seen (item_words x)) (items_of q) ++ close in
     let rest = flat_map (λ (i : Ident). map seen (import_line i)) p.imports ++ items in
     let of_close : pieces part_marks close ≡ close ∷ [] =
     ap (pieces part_marks) (sym (append-nil close)) ∙ piece_of part_marks close [] (close_alone p) ∙ ap (λ (z : List Seen). z ∷ []) (append-nil close) in
-    let of_items = flat_pieces part_marks is_printable_item (λ (i : Item). map seen (item_words i)) item_alone close refl p.items h in
+    let of_items = flat_pieces part_marks everything (λ (x : Told_item). map seen (item_words x)) (λ (x : Told_item) (h : true ≡ true). item_alone x.0 x.1) close refl (items_of q) (all_everything (items_of q)) in
     let of_imports = flat_pieces part_marks everything (λ (i : Ident). map seen (import_line i)) import_alone items of_items.1 p.imports (all_everything p.imports) in
-    ap parts_in (split_package p)
+    ap parts_in (split_package q)
     ∙ piece_of part_marks (map seen (head_words p)) rest (head_alone p)
     ∙ two (λ (z : List Seen) (zs : List (List Seen)). z ∷ zs) (ap (λ (z : List Seen). map seen (head_words p) ++ z) of_imports.1 ∙ append-nil (map seen (head_words p)))
-    (of_imports.0 ∙ ap (λ (z : List (List Seen)). seen_imports p ++ z) (of_items.0 ∙ ap (λ (z : List (List Seen)). seen_items p ++ z) of_close))
+    (of_imports.0 ∙ ap (λ (z : List (List Seen)). seen_imports p ++ z) (of_items.0 ∙ ap (λ (z : List (List Seen)). seen_items q ++ z) of_close))
 
 filter-append : {A : Type 0} (p : A → Bool) (a b : List A) → filter p (a ++ b) ≡ filter p a ++ filter p b
 filter-append p [] b = refl
@@ -335,39 +362,44 @@ filter_none : {A B : Type 0} (p : B → Bool) (f : A → B) → ((x : A) → p (
 filter_none p f e [] = refl
 filter_none p f e (x ∷ xs) = rw (e x) (filter_none p f e xs)
 
-begins_item : (i : Item) → is_printable_item i ≡ true → begins item_mark (map seen (item_words i)) ≡ true
-begins_item (item.Frame f) h = refl
-begins_item (item.Body b) h = refl
-begins_item (item.Library t) h = absurd cc
+begins_item : (i : Item) (clauses : List Clause) → begins item_mark (map seen (words_of_item i clauses)) ≡ true
+begins_item (item.Frame f) clauses = refl
+begins_item (item.Body b) clauses = refl
+begins_item (item.Library t) clauses = refl
 
-no_import : (i : Item) → begins import_mark (map seen (item_words i)) ≡ false
-no_import (item.Frame f) = refl
-no_import (item.Body b) = refl
-no_import (item.Library t) = refl
+no_import : (i : Item) (clauses : List Clause) → begins import_mark (map seen (words_of_item i clauses)) ≡ false
+no_import (item.Frame f) clauses = refl
+no_import (item.Body b) clauses = refl
+no_import (item.Library t) clauses = refl
 
-imports_found : (p : Package) → filter (begins import_mark) (seen_parts p) ≡ seen_imports p
-imports_found p =
-    filter-append (begins import_mark) (seen_imports p) (seen_items p ++ map seen (close_words p) ∷ [])
+imports_found : (q : Told_package) → filter (begins import_mark) (seen_parts q) ≡ seen_imports q.0
+imports_found q =
+    let p = q.0 in
+    filter-append (begins import_mark) (seen_imports p) (seen_items q ++ map seen (close_words p) ∷ [])
     ∙ two (λ (y z : List (List Seen)). y ++ z)
     (filter_all (begins import_mark) (λ (i : Ident). map seen (import_line i)) everything (λ (i : Ident) (h : true ≡ true). refl) p.imports (all_everything p.imports))
-    (filter-append (begins import_mark) (seen_items p) (map seen (close_words p) ∷ [])
-    ∙ ap (λ (z : List (List Seen)). z ++ []) (filter_none (begins import_mark) (λ (i : Item). map seen (item_words i)) no_import p.items))
+    (filter-append (begins import_mark) (seen_items q) (map seen (close_words p) ∷ [])
+    ∙ ap (λ (z : List (List Seen)). z ++ []) (filter_none (begins import_mark) (λ (x : Told_item). map seen (item_words x)) (λ (x : Told_item). no_import x.0 x.1) (items_of q)))
     ∙ append-nil (seen_imports p)
 
-items_found : (p : Package) → list_all is_printable_item p.items ≡ true → filter (begins item_mark) (seen_parts p) ≡ seen_items p
-items_found p h =
-    filter-append (begins item_mark) (seen_imports p) (seen_items p ++ map seen (close_words p) ∷ [])
+items_found : (q : Told_package) → filter (begins item_mark) (seen_parts q) ≡ seen_items q
+items_found q =
+    let p = q.0 in
+    filter-append (begins item_mark) (seen_imports p) (seen_items q ++ map seen (close_words p) ∷ [])
     ∙ two (λ (y z : List (List Seen)). y ++ z)
     (filter_none (begins item_mark) (λ (i : Ident). map seen (import_line i)) (λ (i : Ident). refl) p.imports)
-    (filter-append (begins item_mark) (seen_items p) (map seen (close_words p) ∷ [])
-    ∙ ap (λ (z : List (List Seen)). z ++ []) (filter_all (begins item_mark) (λ (i : Item). map seen (item_words i)) is_printable_item begins_item p.items h)
-    ∙ append-nil (seen_items p))
+    (filter-append (begins item_mark) (seen_items q) (map seen (close_words p) ∷ [])
+    ∙ ap (λ (z : List (List Seen)). z ++ [])
+    (filter_all (begins item_mark) (λ (x : Told_item). map seen (item_words x)) everything (λ (x : Told_item) (h : true ≡ true). begins_item x.0 x.1) (items_of q) (all_everything (items_of q)))
+    ∙ append-nil (seen_items q))
 
-items_back : (xs : List Item) → list_all is_printable_item xs ≡ true → filter_map item_in (map (λ i. map seen (item_words i)) xs) ≡ map bare_item xs
-items_back [] h = refl
-items_back (i ∷ xs) h =
-    let parts = and_parts (is_printable_item i) (list_all is_printable_item xs) h in
-    rw (item_back i parts.0) (ap (λ (z : List Item). bare_item i ∷ z) (items_back xs parts.1))
+-- the pieces that declarations begin
+pub items_pieces : (q : Told_package) → filter (begins item_mark) (parts_in (map seen (package_words q))) ≡ seen_items q
+items_pieces q = ap (filter (begins item_mark)) (parts_back q) ∙ items_found q
+
+items_back : (xs : List Item) (stated : List (List Clause)) → filter_map item_in (map (λ x. map seen (item_words x)) (paired xs stated)) ≡ map bare_item xs
+items_back [] stated = refl
+items_back (i ∷ xs) stated = rw (item_back i (first_list stated)) (ap (λ (z : List Item). bare_item i ∷ z) (items_back xs (other_lists stated)))
 
 -- a package's name, with words behind it that have no parts of names
 name_back : (i : Ident) (ws : List Spelled) → texts part_mark (map seen ws) ≡ [] → named (join (texts part_mark (map seen (pname_words i ++ ws)))) ≡ bare_ident i
@@ -377,40 +409,34 @@ imports_back : (xs : List Ident) → map package_name_in (map (λ i. map seen (i
 imports_back [] = refl
 imports_back (i ∷ xs) = two (λ (z : Ident) (zs : List Ident). z ∷ zs) (name_back i semicolon refl) (imports_back xs)
 
-package_back : (p : Package) → list_all is_printable_item p.items ≡ true → package_in (map seen (package_words p)) ≡ bare_package p
-package_back p h =
-    ap package_of_parts (parts_back p h)
+package_back : (q : Told_package) → package_in (map seen (package_words q)) ≡ bare_package q.0
+package_back q =
+    ap package_of_parts (parts_back q)
     ∙ three (λ (n : Ident) (is : List Ident) (its : List Item). record { name = n; imports = is; items = its })
-    (name_back p.name (word (codes "public") ∷ []) refl)
-    (ap (map package_name_in) (imports_found p) ∙ imports_back p.imports)
-    (ap (filter_map item_in) (items_found p h) ∙ items_back p.items h)
+    (name_back q.0.name (word (codes "public") ∷ []) refl)
+    (ap (map package_name_in) (imports_found q) ∙ imports_back q.0.imports)
+    (ap (filter_map item_in) (items_found q) ∙ items_back q.0.items q.1)
 
--- the items of a printable package have words
-pub items_printable : (p : Package) → is_printable_package p ≡ true → list_all is_printable_item p.items ≡ true
-items_printable p h =
-    let names = and_parts (is_printable_package_name p.name) (list_all is_printable_package_name p.imports && list_all is_printable_item p.items) h in
-    (and_parts (list_all is_printable_package_name p.imports) (list_all is_printable_item p.items) names.1).1
-
-package_alone : (p : Package) → is_printable_package p ≡ true → BeginsAlone (package_mark ∷ []) (map seen (package_words p))
-package_alone p h = record {
+package_alone : (q : Told_package) → everything q ≡ true → BeginsAlone (package_mark ∷ []) (map seen (package_words q))
+package_alone q h = record {
   head = seen (name_at package_mark (codes "package"));
-  rest = map seen (behind_first (package_words p));
+  rest = map seen (behind_first (package_words q));
   whole = refl;
   first = refl;
-  others = seen_all package_set (λ (k : ℕ). not (among (package_mark ∷ []) k)) (behind_first (package_words p)) refl (package_marks p);
+  others = seen_all package_set (λ (k : ℕ). not (among (package_mark ∷ []) k)) (behind_first (package_words q)) refl (package_marks q);
 }
 
-all_back : (ps : List Package) → list_all is_printable_package ps ≡ true → map package_in (map (λ p. map seen (package_words p)) ps) ≡ map bare_package ps
-all_back [] h = refl
-all_back (p ∷ ps) h =
-    let parts = and_parts (is_printable_package p) (list_all is_printable_package ps) h in
-    two (λ (z : Package) (zs : List Package). z ∷ zs) (package_back p (items_printable p parts.0)) (all_back ps parts.1)
+all_back : (ps : List Package) (stated : Stated) → map package_in (map (λ q. map seen (package_words q)) (paired ps stated)) ≡ map bare_package ps
+all_back [] stated = refl
+all_back (p ∷ ps) stated = two (λ (z : Package) (zs : List Package). z ∷ zs) (package_back (p, first_list stated)) (all_back ps (other_lists stated))
+
+-- the pieces that packages begin
+pub packages_pieces : (qs : List Told_package) → pieces (package_mark ∷ []) (map seen (flat_map package_words qs)) ≡ map (λ q. map seen (package_words q)) qs
+packages_pieces qs =
+    let line = λ (q : Told_package). map seen (package_words q) in
+    let found = flat_pieces (package_mark ∷ []) everything line package_alone [] refl qs (all_everything qs) in
+    ap (pieces (package_mark ∷ [])) (map_flat package_words qs ∙ sym (append-nil (flat_map line qs))) ∙ found.0 ∙ append-nil (map line qs)
 
 -- the words of packages declare them, but for places and annexes
-pub packages_back : (ps : List Package) → list_all is_printable_package ps ≡ true → packages_in (map seen (flat_map package_words ps)) ≡ map bare_package ps
-packages_back ps h =
-    let lines = flat_map (λ (p : Package). map seen (package_words p)) ps in
-    let found = flat_pieces (package_mark ∷ []) is_printable_package (λ (p : Package). map seen (package_words p)) package_alone [] refl ps h in
-    ap packages_in (map_flat package_words ps ∙ sym (append-nil lines))
-    ∙ ap (map package_in) (found.0 ∙ append-nil (map (λ (p : Package). map seen (package_words p)) ps))
-    ∙ all_back ps h
+pub packages_back : (ps : List Package) (stated : Stated) → packages_in (map seen (flat_map package_words (paired ps stated))) ≡ map bare_package ps
+packages_back ps stated = ap (map package_in) (packages_pieces (paired ps stated)) ∙ all_back ps stated

@@ -20,11 +20,21 @@ use Rattle.ag_aadl.specs.declared.packages.Item.TheVariants as item
 use Rattle.ag_aadl.specs.declared.packages.Package.{Package}
 use Rattle.ag_aadl.specs.Marks.{import_mark, feature_mark, sub_mark, connection_mark, close_mark, features_mark, subcomponents_mark, connections_mark}
 use Rattle.ag_aadl.specs.Words.{same, reserved_words, known_symbols}
-use Rattle.ag_print.specs.Canonical.{Spelled, name_at, sign_at, sign, word, name_parts, more_parts, parts_words, pname_words, body_words, package_parts, class_words, semicolon, kind_words, port_line, sub_line, spot_words, end_words, wire_line, import_line}
+use Rattle.ag_aadl.specs.Names.{name_parts}
+use Rattle.ag_lex.specs.declared.token.Token.{Token}
+use Rattle.ag_annex.specs.declared.clauses.Clause.{Clause}
+use Rattle.ag_print.specs.Canonical.{Spelled, name_at, sign_at, sign, word, more_parts, parts_words, pname_words, body_words, package_parts, class_words, semicolon, kind_words, port_line, sub_line, spot_words, end_words, wire_line, import_line}
 use Rattle.ag_print.proofs.RereadingSeen.{Seen}
 use Rattle.ag_print.proofs.RereadingPieces.{among, both, all_both}
-use Rattle.ag_print.proofs.RereadingLines.{seen, behind_first, section_words, frame_end, features, frame_words, body_end, subcomponents, connections, implementation_words, item_words, head_words, close_words, package_words, marks_within, seen_all, wider, name_set, class_set, port_set, sub_set, wire_set, wires_set, subs_set, ports_set, port_marks, sub_marks, wire_marks, features_marks, subcomponents_marks, connections_marks, import_marks, head_marks, close_marks}
+use Rattle.ag_print.proofs.RereadingLines.{seen, behind_first, section_words, annex_words, frame_end, frame_tail, features, frame_words, body_end, subcomponents, connections, body_rest, implementation_words, words_of_item, item_words, items_of, head_words, close_words, package_words, marks_within, seen_all, wider, name_set, class_set, port_set, sub_set, wire_set, wires_set, subs_set, ports_set, annex_set, annexes_marks, port_marks, sub_marks, wire_marks, features_marks, subcomponents_marks, connections_marks, import_marks, head_marks, close_marks}
 use Rattle.ag_print.proofs.RereadingRules.{Told, with_names, names_hold, sections_hold, is_quiet, calm_set, calm_names, silent_set, silent_sections, same_selves}
+
+-- a package and a declaration, each with what its annexes state
+abbrev Told_package : Type 0
+Told_package = Package × List (List Clause)
+
+abbrev Told_item : Type 0
+Told_item = Item × List Clause
 
 -- ---- names
 
@@ -56,29 +66,35 @@ in_two a b t = ap (λ (z : List Seen). z ++ t) (map-append seen a b) ∙ append_
 abbrev HoldsBehind : List (List ℕ) → List Seen → Type 0
 HoldsBehind p t = (x : Naming) (d e : List (List ℕ)) → names_hold (with_names x p d e) t ≡ true
 
-frame_names : (p : List (List ℕ)) (f : Frame) (t : List Seen) → HoldsBehind p t → HoldsBehind p (map seen (frame_words f) ++ t)
-frame_names p f t h x d e =
+frame_names : (p : List (List ℕ)) (f : Frame) (clauses : List Clause) (t : List Seen) → HoldsBehind p t → HoldsBehind p (map seen (frame_words f clauses) ++ t)
+frame_names p f clauses t h x d e =
     let n = f.name.text ∷ [] in
     let state = with_names naming.Nothing p n [] in
-    ap (names_hold state) (in_two (features f) (frame_end f) t)
-    ∙ calm_words p n [] ports_set (features f) (map seen (frame_end f) ++ t) refl (features_marks f)
+    let annexes = annex_words f.annexes clauses in
+    ap (names_hold state) (in_two (features f) (frame_tail f clauses) t)
+    ∙ calm_words p n [] ports_set (features f) (map seen (frame_tail f clauses) ++ t) refl (features_marks f)
+    ∙ ap (names_hold state) (in_two annexes (frame_end f) t)
+    ∙ calm_words p n [] annex_set annexes (map seen (frame_end f) ++ t) refl (annexes_marks f.annexes clauses)
     ∙ rw (same_selves n) (h naming.Nothing n n)
 
-body_names : (p : List (List ℕ)) (b : Body) (t : List Seen) → HoldsBehind p t → HoldsBehind p (map seen (implementation_words b) ++ t)
-body_names p b t h x d e =
+body_names : (p : List (List ℕ)) (b : Body) (clauses : List Clause) (t : List Seen) → HoldsBehind p t → HoldsBehind p (map seen (implementation_words b clauses) ++ t)
+body_names p b clauses t h x d e =
     let n = b.frame.text ∷ b.name.text ∷ [] in
     let state = with_names naming.Nothing p n [] in
-    let tail = connections b ++ body_end b in
+    let tail = connections b ++ body_rest b clauses in
+    let annexes = annex_words b.annexes clauses in
     ap (names_hold state) (in_two (subcomponents b) tail t)
     ∙ calm_words p n [] subs_set (subcomponents b) (map seen tail ++ t) refl (subcomponents_marks b)
-    ∙ ap (names_hold state) (in_two (connections b) (body_end b) t)
-    ∙ calm_words p n [] wires_set (connections b) (map seen (body_end b) ++ t) refl (connections_marks b)
+    ∙ ap (names_hold state) (in_two (connections b) (body_rest b clauses) t)
+    ∙ calm_words p n [] wires_set (connections b) (map seen (body_rest b clauses) ++ t) refl (connections_marks b)
+    ∙ ap (names_hold state) (in_two annexes (body_end b) t)
+    ∙ calm_words p n [] annex_set annexes (map seen (body_end b) ++ t) refl (annexes_marks b.annexes clauses)
     ∙ rw (same_selves n) (h naming.Nothing n n)
 
-item_names : (p : List (List ℕ)) (i : Item) (t : List Seen) → HoldsBehind p t → HoldsBehind p (map seen (item_words i) ++ t)
-item_names p (item.Frame f) t h = frame_names p f t h
-item_names p (item.Body b) t h = body_names p b t h
-item_names p (item.Library a) t h = h
+item_names : (p : List (List ℕ)) (i : Item) (clauses : List Clause) (t : List Seen) → HoldsBehind p t → HoldsBehind p (map seen (words_of_item i clauses) ++ t)
+item_names p (item.Frame f) clauses t h = frame_names p f clauses t h
+item_names p (item.Body b) clauses t h = body_names p b clauses t h
+item_names p (item.Library a) clauses t h = λ x d e. h naming.Nothing [] []
 
 import_names : (p : List (List ℕ)) (i : Ident) (t : List Seen) → HoldsBehind p t → HoldsBehind p (map seen (import_line i) ++ t)
 import_names p i t h x d e = calm_words p d e class_set (behind_first (import_line i)) t refl (import_marks i) ∙ h naming.Nothing d e
@@ -98,22 +114,22 @@ close_names q t h x d e =
     ∙ parts_end ps d ps (map seen close ++ t)
     ∙ rw (same_selves ps) (h (with_names naming.Nothing ps d ps))
 
-package_names : (q : Package) (t : List Seen) → ((n : Told) → names_hold n t ≡ true) → (n : Told) → names_hold n (map seen (package_words q) ++ t) ≡ true
+package_names : (q : Told_package) (t : List Seen) → ((n : Told) → names_hold n t ≡ true) → (n : Told) → names_hold n (map seen (package_words q) ++ t) ≡ true
 package_names q t h n =
-    let ps = name_parts q.name.text in
-    let imports = flat_map import_line q.imports in
-    let items = flat_map item_words q.items in
-    let close = map seen (close_words q) ++ t in
-    let behind_items = flat_names ps item_words (item_names ps) close (close_names q t h) q.items in
-    let behind_imports = flat_names ps import_line (import_names ps) (map seen items ++ close) behind_items q.imports in
+    let ps = name_parts q.0.name.text in
+    let imports = flat_map import_line q.0.imports in
+    let items = flat_map item_words (items_of q) in
+    let close = map seen (close_words q.0) ++ t in
+    let behind_items = flat_names ps item_words (λ (x : Told_item). item_names ps x.0 x.1) close (close_names q.0 t h) (items_of q) in
+    let behind_imports = flat_names ps import_line (import_names ps) (map seen items ++ close) behind_items q.0.imports in
     let public = word (codes "public") ∷ [] in
-    ap (names_hold n) (in_two (head_words q) (imports ++ (items ++ close_words q)) t
-    ∙ ap (λ (z : List Seen). map seen (head_words q) ++ z) (in_two imports (items ++ close_words q) t ∙ ap (λ (z : List Seen). map seen imports ++ z) (in_two items (close_words q) t)))
-    ∙ ap (names_hold (with_names naming.Head [] n.declaration n.end)) (in_two (pname_words q.name) public (map seen imports ++ (map seen items ++ close)))
+    ap (names_hold n) (in_two (head_words q.0) (imports ++ (items ++ close_words q.0)) t
+    ∙ ap (λ (z : List Seen). map seen (head_words q.0) ++ z) (in_two imports (items ++ close_words q.0) t ∙ ap (λ (z : List Seen). map seen imports ++ z) (in_two items (close_words q.0) t)))
+    ∙ ap (names_hold (with_names naming.Head [] n.declaration n.end)) (in_two (pname_words q.0.name) public (map seen imports ++ (map seen items ++ close)))
     ∙ parts_head n.declaration n.end ps (map seen public ++ (map seen imports ++ (map seen items ++ close)))
     ∙ behind_imports naming.Head n.declaration n.end
 
-pub names_kept : (qs : List Package) (n : Told) → names_hold n (map seen (flat_map package_words qs)) ≡ true
+pub names_kept : (qs : List Told_package) (n : Told) → names_hold n (map seen (flat_map package_words qs)) ≡ true
 names_kept [] n = refl
 names_kept (q ∷ qs) n =
     ap (names_hold n) (map-append seen (package_words q) (flat_map package_words qs)) ∙ package_names q (map seen (flat_map package_words qs)) (names_kept qs) n
@@ -161,36 +177,41 @@ wires_sections before b t fresh h = step b.wires
         (flat_silent (before ++ connections_mark ∷ []) (connection_mark ∷ wire_set) wire_line refl (λ (q : Wire). wider wire_set (connection_mark ∷ wire_set) (behind_first (wire_line q)) refl (wire_marks q)) t (w ∷ xs)
         ∙ h (before ++ connections_mark ∷ []))
 
-item_sections : (i : Item) (t : List Seen) → HoldsAnyway t → HoldsAnyway (map seen (item_words i) ++ t)
-item_sections (item.Frame f) t h before =
-    ap (sections_hold []) (in_two (features f) (frame_end f) t) ∙ features_sections f (map seen (frame_end f) ++ t) (h []) (h [])
-item_sections (item.Body b) t h before =
-    let tail = connections b ++ body_end b in
-    let ends : HoldsAnyway (map seen (body_end b) ++ t) = λ (c : List ℕ). h [] in
+item_sections : (i : Item) (clauses : List Clause) (t : List Seen) → HoldsAnyway t → HoldsAnyway (map seen (words_of_item i clauses) ++ t)
+item_sections (item.Frame f) clauses t h before =
+    let annexes = annex_words f.annexes clauses in
+    let ends = λ (c : List ℕ). ap (sections_hold c) (in_two annexes (frame_end f) t) ∙ silent_words c annex_set annexes (map seen (frame_end f) ++ t) refl (annexes_marks f.annexes clauses) ∙ h [] in
+    ap (sections_hold []) (in_two (features f) (frame_tail f clauses) t) ∙ features_sections f (map seen (frame_tail f clauses) ++ t) (ends []) (ends (features_mark ∷ []))
+item_sections (item.Body b) clauses t h before =
+    let tail = connections b ++ body_rest b clauses in
+    let annexes = annex_words b.annexes clauses in
+    let ends : HoldsAnyway (map seen (body_rest b clauses) ++ t) =
+    λ (c : List ℕ). ap (sections_hold c) (in_two annexes (body_end b) t) ∙ silent_words c annex_set annexes (map seen (body_end b) ++ t) refl (annexes_marks b.annexes clauses) ∙ h [] in
     let wires = λ (c : List ℕ) (fresh : list_any (λ j. j == connections_mark) c ≡ false).
-    ap (sections_hold c) (in_two (connections b) (body_end b) t) ∙ wires_sections c b (map seen (body_end b) ++ t) fresh ends in
+    ap (sections_hold c) (in_two (connections b) (body_rest b clauses) t) ∙ wires_sections c b (map seen (body_rest b clauses) ++ t) fresh ends in
     ap (sections_hold []) (in_two (subcomponents b) tail t) ∙ subs_sections b (map seen tail ++ t) (wires [] refl) (wires (subcomponents_mark ∷ []) refl)
-item_sections (item.Library a) t h before = h before
+item_sections (item.Library a) clauses t h before = h []
 
-flat_sections : (t : List Seen) → HoldsAnyway t → (xs : List Item) → HoldsAnyway (map seen (flat_map item_words xs) ++ t)
+flat_sections : (t : List Seen) → HoldsAnyway t → (xs : List Told_item) → HoldsAnyway (map seen (flat_map item_words xs) ++ t)
 flat_sections t h [] before = h before
-flat_sections t h (i ∷ xs) before =
-    ap (sections_hold before) (in_two (item_words i) (flat_map item_words xs) t) ∙ item_sections i (map seen (flat_map item_words xs) ++ t) (flat_sections t h xs) before
+flat_sections t h (x ∷ xs) before =
+    ap (sections_hold before) (in_two (item_words x) (flat_map item_words xs) t) ∙ item_sections x.0 x.1 (map seen (flat_map item_words xs) ++ t) (flat_sections t h xs) before
 
-package_sections : (q : Package) (t : List Seen) → HoldsAnyway t → HoldsAnyway (map seen (package_words q) ++ t)
+package_sections : (q : Told_package) (t : List Seen) → HoldsAnyway t → HoldsAnyway (map seen (package_words q) ++ t)
 package_sections q t h before =
-    let imports = flat_map import_line q.imports in
-    let items = flat_map item_words q.items in
-    let close = map seen (close_words q) ++ t in
+    let p = q.0 in
+    let imports = flat_map import_line p.imports in
+    let items = flat_map item_words (items_of q) in
+    let close = map seen (close_words p) ++ t in
     let of_close : HoldsAnyway close =
-    λ (c : List ℕ). silent_words c (close_mark ∷ name_set) (behind_first (close_words q)) t refl (close_marks q) ∙ h c in
-    ap (sections_hold before) (in_two (head_words q) (imports ++ (items ++ close_words q)) t
-    ∙ ap (λ (z : List Seen). map seen (head_words q) ++ z) (in_two imports (items ++ close_words q) t ∙ ap (λ (z : List Seen). map seen imports ++ z) (in_two items (close_words q) t)))
-    ∙ silent_words [] class_set (behind_first (head_words q)) (map seen imports ++ (map seen items ++ close)) refl (head_marks q)
-    ∙ flat_silent [] (import_mark ∷ class_set) import_line refl (λ (i : Ident). wider class_set (import_mark ∷ class_set) (behind_first (import_line i)) refl (import_marks i)) (map seen items ++ close) q.imports
-    ∙ flat_sections close of_close q.items []
+    λ (c : List ℕ). silent_words c (close_mark ∷ name_set) (behind_first (close_words p)) t refl (close_marks p) ∙ h c in
+    ap (sections_hold before) (in_two (head_words p) (imports ++ (items ++ close_words p)) t
+    ∙ ap (λ (z : List Seen). map seen (head_words p) ++ z) (in_two imports (items ++ close_words p) t ∙ ap (λ (z : List Seen). map seen imports ++ z) (in_two items (close_words p) t)))
+    ∙ silent_words [] class_set (behind_first (head_words p)) (map seen imports ++ (map seen items ++ close)) refl (head_marks p)
+    ∙ flat_silent [] (import_mark ∷ class_set) import_line refl (λ (i : Ident). wider class_set (import_mark ∷ class_set) (behind_first (import_line i)) refl (import_marks i)) (map seen items ++ close) p.imports
+    ∙ flat_sections close of_close (items_of q) []
 
-pub sections_kept : (qs : List Package) → HoldsAnyway (map seen (flat_map package_words qs))
+pub sections_kept : (qs : List Told_package) → HoldsAnyway (map seen (flat_map package_words qs))
 sections_kept [] before = refl
 sections_kept (q ∷ qs) before =
     ap (sections_hold before) (map-append seen (package_words q) (flat_map package_words qs)) ∙ package_sections q (map seen (flat_map package_words qs)) (sections_kept qs) before
@@ -255,13 +276,21 @@ quiet_section : {A : Type 0} (head : Spelled) (line : A → List Spelled) → is
 quiet_section head line e h [] = refl
 quiet_section head line e h (a ∷ xs) = both e (quiet_flat line h (a ∷ xs))
 
-quiet_item : (i : Item) → quiet (item_words i) ≡ true
+quiet_annexes : (ts : List Token) (clauses : List Clause) → quiet (annex_words ts clauses) ≡ true
 unfolding same known_symbols reserved_words
-quiet_item (item.Frame f) = quiet_both (features f) (frame_end f) (quiet_section (name_at features_mark (codes "features")) port_line refl quiet_port f.ports) refl
-quiet_item (item.Body b) =
-    quiet_both (subcomponents b) (connections b ++ body_end b) (quiet_section (name_at subcomponents_mark (codes "subcomponents")) sub_line refl quiet_sub b.subs)
-    (quiet_both (connections b) (body_end b) (quiet_section (name_at connections_mark (codes "connections")) wire_line refl quiet_wire b.wires) refl)
-quiet_item (item.Library t) = refl
+quiet_annexes [] clauses = refl
+quiet_annexes (t ∷ ts) clauses = refl
+
+quiet_item : (i : Item) (clauses : List Clause) → quiet (words_of_item i clauses) ≡ true
+unfolding same known_symbols reserved_words
+quiet_item (item.Frame f) clauses =
+    quiet_both (features f) (frame_tail f clauses) (quiet_section (name_at features_mark (codes "features")) port_line refl quiet_port f.ports)
+    (quiet_both (annex_words f.annexes clauses) (frame_end f) (quiet_annexes f.annexes clauses) refl)
+quiet_item (item.Body b) clauses =
+    quiet_both (subcomponents b) (connections b ++ body_rest b clauses) (quiet_section (name_at subcomponents_mark (codes "subcomponents")) sub_line refl quiet_sub b.subs)
+    (quiet_both (connections b) (body_rest b clauses) (quiet_section (name_at connections_mark (codes "connections")) wire_line refl quiet_wire b.wires)
+    (quiet_both (annex_words b.annexes clauses) (body_end b) (quiet_annexes b.annexes clauses) refl))
+quiet_item (item.Library t) clauses = refl
 
 quiet_import : (i : Ident) → quiet (import_line i) ≡ true
 unfolding same known_symbols
@@ -274,12 +303,14 @@ quiet_head q = quiet_both (pname_words q.name) (word (codes "public") ∷ []) (q
 quiet_close : (q : Package) → quiet (close_words q) ≡ true
 quiet_close q = quiet_both (pname_words q.name) (sign_at close_mark (codes ";") ∷ []) (quiet_parts (name_parts q.name.text)) refl
 
-quiet_package : (q : Package) → quiet (package_words q) ≡ true
+quiet_package : (q : Told_package) → quiet (package_words q) ≡ true
 quiet_package q =
-    let imports = flat_map import_line q.imports in
-    let items = flat_map item_words q.items in
-    quiet_both (head_words q) (imports ++ (items ++ close_words q)) (quiet_head q)
-    (quiet_both imports (items ++ close_words q) (quiet_flat import_line quiet_import q.imports) (quiet_both items (close_words q) (quiet_flat item_words quiet_item q.items) (quiet_close q)))
+    let p = q.0 in
+    let imports = flat_map import_line p.imports in
+    let items = flat_map item_words (items_of q) in
+    quiet_both (head_words p) (imports ++ (items ++ close_words p)) (quiet_head p)
+    (quiet_both imports (items ++ close_words p) (quiet_flat import_line quiet_import p.imports)
+    (quiet_both items (close_words p) (quiet_flat item_words (λ (x : Told_item). quiet_item x.0 x.1) (items_of q)) (quiet_close p)))
 
-pub timing_kept : (qs : List Package) → list_all is_quiet (map seen (flat_map package_words qs)) ≡ true
+pub timing_kept : (qs : List Told_package) → list_all is_quiet (map seen (flat_map package_words qs)) ≡ true
 timing_kept qs = list_all-map is_quiet seen (flat_map package_words qs) ∙ quiet_flat package_words quiet_package qs

@@ -17,9 +17,12 @@ use Rattle.ag_aadl.specs.declared.packages.Body.{Body}
 use Rattle.ag_aadl.specs.declared.packages.Item.{Item}
 use Rattle.ag_aadl.specs.declared.packages.Item.TheVariants as item
 use Rattle.ag_aadl.specs.declared.packages.Package.{Package}
-use Rattle.ag_aadl.specs.Marks.{unmarked, package_mark, part_mark, join_mark, import_mark, item_mark, owner_mark, declared_mark, feature_mark, direction_mark, event_mark, data_mark, class_body_mark, sub_mark, kind_mark, connection_mark, spot_mark, spot_port_mark, end_mark, end_owner_mark, end_name_mark, close_mark, features_mark, subcomponents_mark, connections_mark}
+use Rattle.ag_aadl.specs.Marks.{unmarked, package_mark, part_mark, join_mark, import_mark, item_mark, owner_mark, declared_mark, feature_mark, direction_mark, event_mark, data_mark, class_body_mark, sub_mark, kind_mark, connection_mark, spot_mark, spot_port_mark, annex_name_mark, annex_text_mark, end_mark, end_owner_mark, end_name_mark, close_mark, features_mark, subcomponents_mark, connections_mark}
 use Rattle.ag_aadl.specs.Words.{terminal_of}
-use Rattle.ag_print.specs.Canonical.{Spelled, name_at, sign_at, word, sign, more_parts, parts_words, pname_words, body_words, package_parts, class_words, category_word, semicolon, section, kind_words, port_line, sub_line, spot_words, end_words, wire_line, frame_lines, body_lines, item_lines, import_line, package_lines, canonical_lines}
+use Rattle.ag_lex.specs.declared.token.Token.{Token}
+use Rattle.ag_annex.specs.declared.clauses.Clause.{Clause}
+use Rattle.ag_print.specs.Annexes.{Stated}
+use Rattle.ag_print.specs.Canonical.{Spelled, name_at, sign_at, word, sign, more_parts, parts_words, pname_words, body_words, package_parts, class_words, category_word, semicolon, section, kind_words, port_line, sub_line, spot_words, end_words, wire_line, annex_line, annex_lines, frame_lines, body_lines, item_lines, first_list, other_lists, items_lines, import_line, package_lines, canonical_lines}
 use Rattle.ag_print.proofs.RereadingSeen.{Seen, two}
 use Rattle.ag_print.proofs.RereadingPieces.{among, within, within_passes, all_both}
 
@@ -40,14 +43,26 @@ abbrev pub section_words : {A : Type 0} → Spelled → (A → List Spelled) →
 section_words head line [] = []
 section_words head line (x ∷ xs) = head ∷ flat_map line (x ∷ xs)
 
+-- things, each with what is stated of it
+abbrev pub paired : {A B : Type 0} → List A → List (List B) → List (A × List B)
+paired [] stated = []
+paired (x ∷ xs) stated = (x, first_list stated) ∷ paired xs (other_lists stated)
+
+abbrev pub annex_words : List Token → List Clause → List Spelled
+annex_words [] clauses = []
+annex_words (t ∷ ts) clauses = annex_line unmarked clauses
+
 abbrev pub frame_end : Frame → List Spelled
 frame_end f = word (codes "end") ∷ name_at end_name_mark f.name.text ∷ semicolon
 
 abbrev pub features : Frame → List Spelled
 features f = section_words (name_at features_mark (codes "features")) port_line f.ports
 
-abbrev pub frame_words : Frame → List Spelled
-frame_words f = name_at item_mark (category_word f.category) ∷ name_at declared_mark f.name.text ∷ (features f ++ frame_end f)
+abbrev pub frame_tail : Frame → List Clause → List Spelled
+frame_tail f clauses = annex_words f.annexes clauses ++ frame_end f
+
+abbrev pub frame_words : Frame → List Clause → List Spelled
+frame_words f clauses = name_at item_mark (category_word f.category) ∷ name_at declared_mark f.name.text ∷ (features f ++ frame_tail f clauses)
 
 abbrev pub body_end : Body → List Spelled
 body_end b = word (codes "end") ∷ name_at end_owner_mark b.frame.text ∷ sign (codes ".") ∷ name_at end_name_mark b.name.text ∷ semicolon
@@ -58,15 +73,22 @@ subcomponents b = section_words (name_at subcomponents_mark (codes "subcomponent
 abbrev pub connections : Body → List Spelled
 connections b = section_words (name_at connections_mark (codes "connections")) wire_line b.wires
 
-abbrev pub implementation_words : Body → List Spelled
-implementation_words b =
-    name_at item_mark (category_word b.category) ∷ word (codes "implementation") ∷ name_at owner_mark b.frame.text ∷ sign (codes ".") ∷ name_at declared_mark b.name.text
-    ∷ (subcomponents b ++ (connections b ++ body_end b))
+abbrev pub body_rest : Body → List Clause → List Spelled
+body_rest b clauses = annex_words b.annexes clauses ++ body_end b
 
-abbrev pub item_words : Item → List Spelled
-item_words (item.Frame f) = frame_words f
-item_words (item.Body b) = implementation_words b
-item_words (item.Library t) = []
+abbrev pub implementation_words : Body → List Clause → List Spelled
+implementation_words b clauses =
+    name_at item_mark (category_word b.category) ∷ word (codes "implementation") ∷ name_at owner_mark b.frame.text ∷ sign (codes ".") ∷ name_at declared_mark b.name.text
+    ∷ (subcomponents b ++ (connections b ++ body_rest b clauses))
+
+abbrev pub words_of_item : Item → List Clause → List Spelled
+words_of_item (item.Frame f) clauses = frame_words f clauses
+words_of_item (item.Body b) clauses = implementation_words b clauses
+words_of_item (item.Library t) clauses = annex_line item_mark clauses
+
+-- a declaration, and what its annexes state
+abbrev pub item_words : Item × List Clause → List Spelled
+item_words x = words_of_item x.0 x.1
 
 abbrev pub head_words : Package → List Spelled
 head_words p = name_at package_mark (codes "package") ∷ (pname_words p.name ++ word (codes "public") ∷ [])
@@ -74,8 +96,12 @@ head_words p = name_at package_mark (codes "package") ∷ (pname_words p.name ++
 abbrev pub close_words : Package → List Spelled
 close_words p = name_at end_mark (codes "end") ∷ (pname_words p.name ++ sign_at close_mark (codes ";") ∷ [])
 
-abbrev pub package_words : Package → List Spelled
-package_words p = head_words p ++ (flat_map import_line p.imports ++ (flat_map item_words p.items ++ close_words p))
+-- a package, and what the annexes of its declarations state
+abbrev pub items_of : Package × List (List Clause) → List (Item × List Clause)
+items_of q = paired q.0.items q.1
+
+abbrev pub package_words : Package × List (List Clause) → List Spelled
+package_words q = head_words q.0 ++ (flat_map import_line q.0.imports ++ (flat_map item_words (items_of q) ++ close_words q.0))
 
 flat_lines : {A : Type 0} (line : A → List Spelled) (xs : List A) → flat (map line xs) ≡ flat_map line xs
 flat_lines line [] = refl
@@ -85,45 +111,61 @@ flat_section : {A : Type 0} (head : Spelled) (line : A → List Spelled) (xs : L
 flat_section head line [] = refl
 flat_section head line (x ∷ xs) = ap (λ (z : List Spelled). head ∷ (line x ++ z)) (flat_lines line xs)
 
-flat_frame : (f : Frame) → flat (frame_lines f) ≡ frame_words f
-flat_frame f =
-    ap (λ (z : List Spelled). name_at item_mark (category_word f.category) ∷ name_at declared_mark f.name.text ∷ z)
-    (flat_map-append (λ (line : List Spelled). line) (section (name_at features_mark (codes "features")) (map port_line f.ports)) (frame_end f ∷ [])
-    ∙ ap (λ (z : List Spelled). z ++ frame_end f) (flat_section (name_at features_mark (codes "features")) port_line f.ports))
+flat_annexes : (ts : List Token) (clauses : List Clause) → flat (annex_lines ts clauses) ≡ annex_words ts clauses
+flat_annexes [] clauses = refl
+flat_annexes (t ∷ ts) clauses = append-nil (annex_line unmarked clauses)
 
-flat_body : (b : Body) → flat (body_lines b) ≡ implementation_words b
-flat_body b =
+-- the annexes' lines and one more
+flat_tail : (ts : List Token) (clauses : List Clause) (end : List Spelled) → flat (annex_lines ts clauses ++ end ∷ []) ≡ annex_words ts clauses ++ end
+flat_tail ts clauses end =
+    flat_map-append (λ (line : List Spelled). line) (annex_lines ts clauses) (end ∷ []) ∙ two (λ (y z : List Spelled). y ++ z) (flat_annexes ts clauses) (append-nil end)
+
+flat_frame : (f : Frame) (clauses : List Clause) → flat (frame_lines f clauses) ≡ frame_words f clauses
+flat_frame f clauses =
+    ap (λ (z : List Spelled). name_at item_mark (category_word f.category) ∷ name_at declared_mark f.name.text ∷ z)
+    (flat_map-append (λ (line : List Spelled). line) (section (name_at features_mark (codes "features")) (map port_line f.ports)) (annex_lines f.annexes clauses ++ frame_end f ∷ [])
+    ∙ two (λ (y z : List Spelled). y ++ z) (flat_section (name_at features_mark (codes "features")) port_line f.ports) (flat_tail f.annexes clauses (frame_end f)))
+
+flat_body : (b : Body) (clauses : List Clause) → flat (body_lines b clauses) ≡ implementation_words b clauses
+flat_body b clauses =
     let subs = section (name_at subcomponents_mark (codes "subcomponents")) (map sub_line b.subs) in
     let wires = section (name_at connections_mark (codes "connections")) (map wire_line b.wires) in
+    let rest = annex_lines b.annexes clauses ++ body_end b ∷ [] in
     ap (λ (z : List Spelled). name_at item_mark (category_word b.category) ∷ word (codes "implementation") ∷ name_at owner_mark b.frame.text ∷ sign (codes ".") ∷ name_at declared_mark b.name.text ∷ z)
-    (flat_map-append (λ (line : List Spelled). line) subs (wires ++ body_end b ∷ [])
+    (flat_map-append (λ (line : List Spelled). line) subs (wires ++ rest)
     ∙ two (λ (y z : List Spelled). y ++ z) (flat_section (name_at subcomponents_mark (codes "subcomponents")) sub_line b.subs)
-    (flat_map-append (λ (line : List Spelled). line) wires (body_end b ∷ [])
-    ∙ ap (λ (z : List Spelled). z ++ body_end b) (flat_section (name_at connections_mark (codes "connections")) wire_line b.wires)))
+    (flat_map-append (λ (line : List Spelled). line) wires rest
+    ∙ two (λ (y z : List Spelled). y ++ z) (flat_section (name_at connections_mark (codes "connections")) wire_line b.wires) (flat_tail b.annexes clauses (body_end b))))
 
-flat_item : (i : Item) → flat (item_lines i) ≡ item_words i
-flat_item (item.Frame f) = flat_frame f
-flat_item (item.Body b) = flat_body b
-flat_item (item.Library t) = refl
+flat_item : (i : Item) (clauses : List Clause) → flat (item_lines i clauses) ≡ words_of_item i clauses
+flat_item (item.Frame f) clauses = flat_frame f clauses
+flat_item (item.Body b) clauses = flat_body b clauses
+flat_item (item.Library t) clauses = append-nil (annex_line item_mark clauses)
 
-flat_more : {A : Type 0} (lines : A → List (List Spelled)) (words : A → List Spelled) → ((x : A) → flat (lines x) ≡ words x) → (xs : List A) → flat (flat_map lines xs) ≡ flat_map words xs
-flat_more lines words e [] = refl
-flat_more lines words e (x ∷ xs) = flat_map-append (λ (line : List Spelled). line) (lines x) (flat_map lines xs) ∙ two (λ (y z : List Spelled). y ++ z) (e x) (flat_more lines words e xs)
+flat_items : (items : List Item) (stated : List (List Clause)) → flat (items_lines items stated) ≡ flat_map item_words (paired items stated)
+flat_items [] stated = refl
+flat_items (i ∷ items) stated =
+    flat_map-append (λ (line : List Spelled). line) (item_lines i (first_list stated)) (items_lines items (other_lists stated))
+    ∙ two (λ (y z : List Spelled). y ++ z) (flat_item i (first_list stated)) (flat_items items (other_lists stated))
 
-flat_package : (p : Package) → flat (package_lines p) ≡ package_words p
-flat_package p =
+flat_package : (p : Package) (stated : List (List Clause)) → flat (package_lines p stated) ≡ package_words (p, stated)
+flat_package p stated =
     let close = name_at end_mark (codes "end") ∷ (pname_words p.name ++ sign_at close_mark (codes ";") ∷ []) in
-    let rest = flat_map import_line p.imports ++ (flat_map item_words p.items ++ close) in
-    let inner : flat (flat_map item_lines p.items ++ close ∷ []) ≡ flat_map item_words p.items ++ close =
-    flat_map-append (λ (line : List Spelled). line) (flat_map item_lines p.items) (close ∷ []) ∙ two (λ (y z : List Spelled). y ++ z) (flat_more item_lines item_words flat_item p.items) (append-nil close) in
-    let tail : flat (map import_line p.imports ++ (flat_map item_lines p.items ++ close ∷ [])) ≡ rest =
-    flat_map-append (λ (line : List Spelled). line) (map import_line p.imports) (flat_map item_lines p.items ++ close ∷ [])
+    let items = flat_map item_words (paired p.items stated) in
+    let rest = flat_map import_line p.imports ++ (items ++ close) in
+    let inner : flat (items_lines p.items stated ++ close ∷ []) ≡ items ++ close =
+    flat_map-append (λ (line : List Spelled). line) (items_lines p.items stated) (close ∷ []) ∙ two (λ (y z : List Spelled). y ++ z) (flat_items p.items stated) (append-nil close) in
+    let tail : flat (map import_line p.imports ++ (items_lines p.items stated ++ close ∷ [])) ≡ rest =
+    flat_map-append (λ (line : List Spelled). line) (map import_line p.imports) (items_lines p.items stated ++ close ∷ [])
     ∙ two (λ (y z : List Spelled). y ++ z) (flat_lines import_line p.imports) inner in
     ap (λ (z : List Spelled). name_at package_mark (codes "package") ∷ (pname_words p.name ++ (word (codes "public") ∷ z))) tail
     ∙ ap (λ (z : List Spelled). name_at package_mark (codes "package") ∷ z) (sym (append_assoc (pname_words p.name) (word (codes "public") ∷ []) rest))
 
-pub flat_packages : (ps : List Package) → flat (canonical_lines ps) ≡ flat_map package_words ps
-flat_packages ps = flat_more package_lines package_words flat_package ps
+pub flat_packages : (ps : List Package) (stated : Stated) → flat (canonical_lines ps stated) ≡ flat_map package_words (paired ps stated)
+flat_packages [] stated = refl
+flat_packages (p ∷ ps) stated =
+    flat_map-append (λ (line : List Spelled). line) (package_lines p (first_list stated)) (canonical_lines ps (other_lists stated))
+    ∙ two (λ (y z : List Spelled). y ++ z) (flat_package p (first_list stated)) (flat_packages ps (other_lists stated))
 
 pub map_flat : {A : Type 0} (line : A → List Spelled) (xs : List A) → map seen (flat_map line xs) ≡ flat_map (λ x. map seen (line x)) xs
 map_flat line [] = refl
@@ -168,8 +210,11 @@ wire_set = unmarked ∷ spot_mark ∷ spot_port_mark ∷ []
 abbrev pub wires_set : List ℕ
 wires_set = connection_mark ∷ connections_mark ∷ wire_set
 
+abbrev pub annex_set : List ℕ
+annex_set = unmarked ∷ annex_name_mark ∷ annex_text_mark ∷ []
+
 abbrev pub end_set : List ℕ
-end_set = unmarked ∷ end_owner_mark ∷ end_name_mark ∷ []
+end_set = end_owner_mark ∷ end_name_mark ∷ annex_set
 
 abbrev pub ports_set : List ℕ
 ports_set = feature_mark ∷ features_mark ∷ port_set
@@ -181,7 +226,7 @@ subs_set = sub_mark ∷ subcomponents_mark ∷ sub_set
 abbrev pub inner_set : List ℕ
 inner_set =
     unmarked ∷ part_mark ∷ join_mark ∷ owner_mark ∷ declared_mark ∷ feature_mark ∷ direction_mark ∷ event_mark ∷ data_mark ∷ class_body_mark ∷ sub_mark ∷ kind_mark
-    ∷ connection_mark ∷ spot_mark ∷ spot_port_mark ∷ end_owner_mark ∷ end_name_mark ∷ features_mark ∷ subcomponents_mark ∷ connections_mark ∷ []
+    ∷ connection_mark ∷ spot_mark ∷ spot_port_mark ∷ annex_name_mark ∷ annex_text_mark ∷ end_owner_mark ∷ end_name_mark ∷ features_mark ∷ subcomponents_mark ∷ connections_mark ∷ []
 
 -- what stands in a package behind its first word
 abbrev pub package_set : List ℕ
@@ -244,17 +289,28 @@ pub connections_marks : (b : Body) → marks_within wires_set (connections b) �
 connections_marks b =
     section_marks wires_set (name_at connections_mark (codes "connections")) wire_line refl (λ (w : Wire). wider wire_set wires_set (behind_first (wire_line w)) refl (wire_marks w)) b.wires
 
-pub item_marks : (i : Item) → marks_within inner_set (behind_first (item_words i)) ≡ true
-item_marks (item.Frame f) = join_marks inner_set (features f) (frame_end f) (wider ports_set inner_set (features f) refl (features_marks f)) refl
-item_marks (item.Body b) =
-    join_marks inner_set (subcomponents b) (connections b ++ body_end b) (wider subs_set inner_set (subcomponents b) refl (subcomponents_marks b))
-    (join_marks inner_set (connections b) (body_end b) (wider wires_set inner_set (connections b) refl (connections_marks b)) refl)
-item_marks (item.Library t) = refl
+pub annexes_marks : (ts : List Token) (clauses : List Clause) → marks_within annex_set (annex_words ts clauses) ≡ true
+annexes_marks [] clauses = refl
+annexes_marks (t ∷ ts) clauses = refl
 
-all_of_item : (i : Item) → marks_within package_set (item_words i) ≡ true
-all_of_item (item.Frame f) = wider inner_set package_set (behind_first (item_words (item.Frame f))) refl (item_marks (item.Frame f))
-all_of_item (item.Body b) = wider inner_set package_set (behind_first (item_words (item.Body b))) refl (item_marks (item.Body b))
-all_of_item (item.Library t) = refl
+pub frame_tail_marks : (f : Frame) (clauses : List Clause) → marks_within end_set (frame_tail f clauses) ≡ true
+frame_tail_marks f clauses = join_marks end_set (annex_words f.annexes clauses) (frame_end f) (wider annex_set end_set (annex_words f.annexes clauses) refl (annexes_marks f.annexes clauses)) refl
+
+pub body_rest_marks : (b : Body) (clauses : List Clause) → marks_within end_set (body_rest b clauses) ≡ true
+body_rest_marks b clauses = join_marks end_set (annex_words b.annexes clauses) (body_end b) (wider annex_set end_set (annex_words b.annexes clauses) refl (annexes_marks b.annexes clauses)) refl
+
+pub item_marks : (i : Item) (clauses : List Clause) → marks_within inner_set (behind_first (words_of_item i clauses)) ≡ true
+item_marks (item.Frame f) clauses =
+    join_marks inner_set (features f) (frame_tail f clauses) (wider ports_set inner_set (features f) refl (features_marks f)) (wider end_set inner_set (frame_tail f clauses) refl (frame_tail_marks f clauses))
+item_marks (item.Body b) clauses =
+    join_marks inner_set (subcomponents b) (connections b ++ body_rest b clauses) (wider subs_set inner_set (subcomponents b) refl (subcomponents_marks b))
+    (join_marks inner_set (connections b) (body_rest b clauses) (wider wires_set inner_set (connections b) refl (connections_marks b)) (wider end_set inner_set (body_rest b clauses) refl (body_rest_marks b clauses)))
+item_marks (item.Library t) clauses = refl
+
+all_of_item : (i : Item) (clauses : List Clause) → marks_within package_set (words_of_item i clauses) ≡ true
+all_of_item (item.Frame f) clauses = wider inner_set package_set (behind_first (frame_words f clauses)) refl (item_marks (item.Frame f) clauses)
+all_of_item (item.Body b) clauses = wider inner_set package_set (behind_first (implementation_words b clauses)) refl (item_marks (item.Body b) clauses)
+all_of_item (item.Library t) clauses = refl
 
 pub import_marks : (i : Ident) → marks_within class_set (behind_first (import_line i)) ≡ true
 import_marks i = join_marks class_set (pname_words i) semicolon (wider name_set class_set (pname_words i) refl (parts_marks (package_parts (Some i)))) refl
@@ -270,12 +326,13 @@ close_marks p =
     join_marks (close_mark ∷ name_set) (pname_words p.name) (sign_at close_mark (codes ";") ∷ [])
     (wider name_set (close_mark ∷ name_set) (pname_words p.name) refl (parts_marks (package_parts (Some p.name)))) refl
 
-pub package_marks : (p : Package) → marks_within package_set (behind_first (package_words p)) ≡ true
-package_marks p =
+pub package_marks : (q : Package × List (List Clause)) → marks_within package_set (behind_first (package_words q)) ≡ true
+package_marks q =
+    let p = q.0 in
     let imports = flat_map import_line p.imports in
-    let items = flat_map item_words p.items in
+    let items = flat_map item_words (items_of q) in
     join_marks package_set (behind_first (head_words p)) (imports ++ (items ++ close_words p)) (wider class_set package_set (behind_first (head_words p)) refl (head_marks p))
     (join_marks package_set imports (items ++ close_words p)
     (flat_marks package_set import_line (λ (i : Ident). wider class_set package_set (behind_first (import_line i)) refl (import_marks i)) p.imports)
-    (join_marks package_set items (close_words p) (flat_marks package_set item_words all_of_item p.items)
+    (join_marks package_set items (close_words p) (flat_marks package_set item_words (λ (x : Item × List Clause). all_of_item x.0 x.1) (items_of q))
     (wider (close_mark ∷ name_set) package_set (behind_first (close_words p)) refl (close_marks p))))

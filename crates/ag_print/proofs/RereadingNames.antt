@@ -7,8 +7,10 @@ use Rattle.std.proofs.lemmas.List.{append_assoc, append-nil, map-append}
 use Rattle.ag_aadl.specs.declared.packages.Path.{Path}
 use Rattle.ag_aadl.specs.declared.packages.Ident.{Ident}
 use Rattle.ag_aadl.specs.Marks.{part_mark, class_body_mark}
-use Rattle.ag_print.specs.Canonical.{Spelled, put_before, name_parts, more_parts, parts_words, body_words, package_parts, class_words, semicolon}
-use Rattle.ag_print.specs.Same.{bare_ident, bare_option, bare_class}
+use Rattle.ag_aadl.specs.Names.{put_before, name_parts}
+use Rattle.ag_print.specs.Canonical.{Spelled, more_parts, parts_words, body_words, package_parts, class_words, semicolon}
+use Rattle.ag_unparse.specs.Same.{bare_ident, bare_option}
+use Rattle.ag_print.specs.Same.{bare_class}
 use Rattle.ag_print.proofs.RereadingSeen.{Seen, texts, named, join, some_name, front, last, path_in, class_in, two}
 use Rattle.ag_print.proofs.RereadingPieces.{texts-append}
 use Rattle.ag_print.proofs.RereadingLines.{seen}

@@ -18,7 +18,7 @@ use Rattle.ag_aadl.specs.declared.rules.Context.{Context}
 use Rattle.ag_aadl.specs.declared.timing.Timing.{Timing}
 use Rattle.ag_aadl.specs.declared.timing.Watched.TheVariants as watched
 use Rattle.ag_aadl.specs.Marked.{own}
-use Rattle.ag_aadl.specs.Marks.{unmarked, package_mark, part_mark, join_mark, import_mark, item_mark, owner_mark, declared_mark, feature_mark, direction_mark, event_mark, data_mark, class_body_mark, sub_mark, kind_mark, connection_mark, spot_mark, spot_port_mark, end_mark, end_owner_mark, end_name_mark, close_mark, features_mark, subcomponents_mark, connections_mark}
+use Rattle.ag_aadl.specs.Marks.{unmarked, package_mark, part_mark, join_mark, import_mark, item_mark, owner_mark, declared_mark, feature_mark, direction_mark, event_mark, data_mark, class_body_mark, sub_mark, kind_mark, connection_mark, spot_mark, spot_port_mark, annex_name_mark, annex_text_mark, end_mark, end_owner_mark, end_name_mark, close_mark, features_mark, subcomponents_mark, connections_mark}
 use Rattle.ag_aadl.specs.Rules.{refused_at, same_names, is_head, is_end, naming_after, package_after, declaration_after, end_after, names_after, is_misnamed, misnamed, obey_names, is_section, obey_sections, region_of, is_nowhere, watched_after, value_after, timing_inside, obey_timing, all_obeyed, obey, run_from, run}
 use Rattle.ag_aadl.specs.Terminals.{gives}
 use Rattle.ag_aadl.specs.Words.{same}
@@ -188,7 +188,7 @@ with_names x p d e = record { naming = x; package_name = p; declaration = d; end
 abbrev pub calm_set : List ℕ
 calm_set =
     unmarked ∷ part_mark ∷ join_mark ∷ import_mark ∷ feature_mark ∷ direction_mark ∷ event_mark ∷ data_mark ∷ class_body_mark ∷ sub_mark ∷ kind_mark ∷ connection_mark ∷ spot_mark ∷ spot_port_mark
-    ∷ features_mark ∷ subcomponents_mark ∷ connections_mark ∷ []
+    ∷ annex_name_mark ∷ annex_text_mark ∷ features_mark ∷ subcomponents_mark ∷ connections_mark ∷ []
 
 pub calm_names : (p d e : List (List ℕ)) (a b : List Seen) → list_all (λ s. among calm_set s.mark) a ≡ true
     → names_hold (with_names naming.Nothing p d e) (a ++ b) ≡ names_hold (with_names naming.Nothing p d e) b
@@ -197,21 +197,21 @@ calm_names p d e (s ∷ a) b h =
     let parts = and_parts (among calm_set s.mark) (list_all (λ (s : Seen). among calm_set s.mark) a) h in
     let state = with_names naming.Nothing p d e in
     each_among (λ k. names_hold state (record { mark = k; terminal = s.terminal; text = s.text } ∷ (a ++ b)) ≡ names_hold state (a ++ b)) calm_set s.mark
-    (refl, (refl, (refl, (refl, (refl, (refl, (refl, (refl, (refl, (refl, (refl, (refl, (refl, (refl, (refl, (refl, (refl, tt))))))))))))))))) parts.0
+    (refl, (refl, (refl, (refl, (refl, (refl, (refl, (refl, (refl, (refl, (refl, (refl, (refl, (refl, (refl, (refl, (refl, (refl, (refl, tt))))))))))))))))))) parts.0
     ∙ calm_names p d e a b parts.1
 
 -- the marks that neither begin a section nor a declaration or a package
 abbrev pub silent_set : List ℕ
 silent_set =
     unmarked ∷ part_mark ∷ join_mark ∷ import_mark ∷ owner_mark ∷ declared_mark ∷ feature_mark ∷ direction_mark ∷ event_mark ∷ data_mark ∷ class_body_mark ∷ sub_mark ∷ kind_mark ∷ connection_mark
-    ∷ spot_mark ∷ spot_port_mark ∷ end_mark ∷ end_owner_mark ∷ close_mark ∷ []
+    ∷ spot_mark ∷ spot_port_mark ∷ annex_name_mark ∷ annex_text_mark ∷ end_mark ∷ end_owner_mark ∷ close_mark ∷ []
 
 pub silent_sections : (before : List ℕ) (a b : List Seen) → list_all (λ s. among silent_set s.mark) a ≡ true → sections_hold before (a ++ b) ≡ sections_hold before b
 silent_sections before [] b h = refl
 silent_sections before (s ∷ a) b h =
     let parts = and_parts (among silent_set s.mark) (list_all (λ (s : Seen). among silent_set s.mark) a) h in
     each_among (λ k. sections_hold before (record { mark = k; terminal = s.terminal; text = s.text } ∷ (a ++ b)) ≡ sections_hold before (a ++ b)) silent_set s.mark
-    (refl, (refl, (refl, (refl, (refl, (refl, (refl, (refl, (refl, (refl, (refl, (refl, (refl, (refl, (refl, (refl, (refl, (refl, (refl, tt))))))))))))))))))) parts.0
+    (refl, (refl, (refl, (refl, (refl, (refl, (refl, (refl, (refl, (refl, (refl, (refl, (refl, (refl, (refl, (refl, (refl, (refl, (refl, (refl, (refl, tt))))))))))))))))))))) parts.0
     ∙ silent_sections before a b parts.1
 
 -- ---- texts that are the same

@@ -22,7 +22,8 @@ use Rattle.ag_aadl.specs.Marks.{package_mark, part_mark, import_mark, item_mark,
 use Rattle.ag_aadl.specs.Meaning.{ident_under, joined, some_ident, path_of, class_of, category_of, category_under, kind_of, port_of, sub_of, end_of, part_at, wire_of, is_agree, frame_of, body_of, item_of, begins_with, parts_of_package, name_of, imports_in, items_in, package_of, packages_of}
 use Rattle.ag_aadl.specs.Terminals.{out_word}
 use Rattle.ag_aadl.specs.Words.{same}
-use Rattle.ag_print.specs.Same.{nowhere, no_token, bare_ident, bare_option, bare_class, bare_port, bare_frame, bare_sub, bare_end, bare_wire, bare_body, bare_item, bare_package}
+use Rattle.ag_unparse.specs.Same.{nowhere, bare_ident, bare_option}
+use Rattle.ag_print.specs.Same.{no_token, bare_class, bare_port, bare_frame, bare_sub, bare_end, bare_wire, bare_body, bare_item, bare_package}
 
 -- a token's mark, its terminal and its bytes
 pub record Seen : Type 0 where
@@ -174,17 +175,17 @@ cond_step g false x y = refl
 pub cond_both : {A B : Type 0} (g : A → B) {b c : Bool} (x y : A) {u v : B} → b ≡ c → g x ≡ u → g y ≡ v → g (cond b x y) ≡ cond c u v
 cond_both g {b = b} x y e p q = cond_step g b x y ∙ three (λ z s t. cond z s t) e p q
 
-map_both : {A B C D : Type 0} (r : B → D) (g : A → B) (h : C → D) (f : A → C) → ((a : A) → r (g a) ≡ h (f a)) → (xs : List A) → map r (map g xs) ≡ map h (map f xs)
+pub map_both : {A B C D : Type 0} (r : B → D) (g : A → B) (h : C → D) (f : A → C) → ((a : A) → r (g a) ≡ h (f a)) → (xs : List A) → map r (map g xs) ≡ map h (map f xs)
 map_both r g h f e [] = refl
 map_both r g h f e (x ∷ xs) = two (λ z zs. z ∷ zs) (e x) (map_both r g h f e xs)
 
-filter_both : {A B : Type 0} (f : A → B) (p : A → Bool) (q : B → Bool) → ((a : A) → p a ≡ q (f a)) → (xs : List A) → map f (filter p xs) ≡ filter q (map f xs)
+pub filter_both : {A B : Type 0} (f : A → B) (p : A → Bool) (q : B → Bool) → ((a : A) → p a ≡ q (f a)) → (xs : List A) → map f (filter p xs) ≡ filter q (map f xs)
 filter_both f p q e [] = refl
 filter_both f p q e (x ∷ xs) = cond_both (map f) (x ∷ filter p xs) (filter p xs) (e x) (ap (λ zs. f x ∷ zs) (filter_both f p q e xs)) (filter_both f p q e xs)
 
 -- ---- tokens and what is seen of them
 
-texts_seen : (bytes : List ℕ) (k : ℕ) (ms : List Marked) → map (own bytes) (under k ms) ≡ texts k (map (seen_of bytes) ms)
+pub texts_seen : (bytes : List ℕ) (k : ℕ) (ms : List Marked) → map (own bytes) (under k ms) ≡ texts k (map (seen_of bytes) ms)
 texts_seen bytes k [] = refl
 texts_seen bytes k (m ∷ ms) =
     let more = texts_seen bytes k ms in
@@ -194,21 +195,21 @@ any_seen : (bytes : List ℕ) (p : Seen → Bool) (ms : List Marked) → list_an
 any_seen bytes p [] = refl
 any_seen bytes p (m ∷ ms) = ap (λ (z : Bool). p (seen_of bytes m) || z) (any_seen bytes p ms)
 
-has_seen : (bytes : List ℕ) (k : ℕ) (ms : List Marked) → has_mark k ms ≡ has k (map (seen_of bytes) ms)
+pub has_seen : (bytes : List ℕ) (k : ℕ) (ms : List Marked) → has_mark k ms ≡ has k (map (seen_of bytes) ms)
 has_seen bytes k ms = any_seen bytes (λ s. s.mark == k) ms
 
 until_seen : (bytes ks : List ℕ) (ms : List Marked) → map (seen_of bytes) (up_to ks ms) ≡ until ks (map (seen_of bytes) ms)
 until_seen bytes ks [] = refl
 until_seen bytes ks (m ∷ ms) = cond_both (map (seen_of bytes)) [] (m ∷ up_to ks ms) refl refl (ap (λ (z : List Seen). seen_of bytes m ∷ z) (until_seen bytes ks ms))
 
-pieces_seen : (bytes ks : List ℕ) (ms : List Marked) → map (map (seen_of bytes)) (segments ks ms) ≡ pieces ks (map (seen_of bytes) ms)
+pub pieces_seen : (bytes ks : List ℕ) (ms : List Marked) → map (map (seen_of bytes)) (segments ks ms) ≡ pieces ks (map (seen_of bytes) ms)
 pieces_seen bytes ks [] = refl
 pieces_seen bytes ks (m ∷ ms) =
     let more = pieces_seen bytes ks ms in
     cond_both (map (map (seen_of bytes))) ((m ∷ up_to ks ms) ∷ segments ks ms) (segments ks ms) refl
     (two (λ (z : List Seen) (zs : List (List Seen)). (seen_of bytes m ∷ z) ∷ zs) (until_seen bytes ks ms) more) more
 
-first_seen : (bytes : List ℕ) (ts : List Token) → own bytes (first_of ts) ≡ first_text (map (own bytes) ts)
+pub first_seen : (bytes : List ℕ) (ts : List Token) → own bytes (first_of ts) ≡ first_text (map (own bytes) ts)
 first_seen bytes [] = refl
 first_seen bytes (t ∷ ts) = refl
 
@@ -304,7 +305,7 @@ abbrev bare_some : Option Item → Option Item
 bare_some None = None
 bare_some (Some i) = Some (bare_item i)
 
-agrees_seen : (bytes : List ℕ) (ms : List Marked) → is_agree bytes ms ≡ agrees (map (seen_of bytes) ms)
+pub agrees_seen : (bytes : List ℕ) (ms : List Marked) → is_agree bytes ms ≡ agrees (map (seen_of bytes) ms)
 agrees_seen bytes ms = ap (λ (z : List ℕ). same z (codes "agree")) (first_seen bytes (under annex_name_mark ms) ∙ ap first_text (texts_seen bytes annex_name_mark ms))
 
 item_seen : (bytes : List ℕ) (ms : List Marked) → bare_some (item_of bytes ms) ≡ item_in (map (seen_of bytes) ms)
@@ -321,7 +322,7 @@ items_seen : (bytes : List ℕ) (xs : List (List Marked)) → map bare_item (fil
 items_seen bytes [] = refl
 items_seen bytes (x ∷ xs) = cons_seen (item_of bytes x) (filter_map (item_of bytes) xs) ∙ two cons_option (item_seen bytes x) (items_seen bytes xs)
 
-begins_seen : (bytes : List ℕ) (k : ℕ) (ms : List Marked) → begins_with k ms ≡ begins k (map (seen_of bytes) ms)
+pub begins_seen : (bytes : List ℕ) (k : ℕ) (ms : List Marked) → begins_with k ms ≡ begins k (map (seen_of bytes) ms)
 begins_seen bytes k [] = refl
 begins_seen bytes k (m ∷ ms) = refl
 

@@ -15,17 +15,20 @@ use Rattle.ag_aadl.specs.Marked.{marked}
 use Rattle.ag_aadl.specs.Meaning.{packages_of}
 use Rattle.ag_aadl.specs.Rules.{start}
 use Rattle.ag_aadl.specs.Words.{terminal_of, terminals_of}
+use Rattle.ag_print.specs.Annexes.{Stated}
 use Rattle.ag_print.specs.Canonical.{Spelled, canonical_text}
 use Rattle.ag_print.specs.Layout.{Word, word_at}
-use Rattle.ag_print.specs.Printable.{are_printable}
+use Rattle.ag_print.specs.Printable.{are_printable, StatedMayBePrinted}
 use Rattle.ag_print.specs.Rereading.{StandAs, Declare, IsReread}
 use Rattle.ag_print.specs.Same.{bare_package, SamePackages}
-use Rattle.ag_print.specs.Spelling.{marks_of, canonical_words, marks_of_words, IsReadCanonical}
+use Rattle.ag_grammar.specs.Texts.{marks_of}
+use Rattle.ag_print.specs.Spelling.{canonical_words, marks_of_words, IsReadCanonical}
 use Rattle.ag_print.proofs.RereadingSeen.{Seen, seen_of, packages_in, packages_seen, two}
-use Rattle.ag_print.proofs.RereadingLines.{seen, package_words, flat_packages}
-use Rattle.ag_print.proofs.RereadingAgain.{same_text}
+use Rattle.ag_print.proofs.RereadingLines.{seen, paired, package_words, flat_packages}
+use Rattle.ag_print.proofs.RereadingAgain.{OneClausesText, heads, tails, same_text}
+use Rattle.ag_print.proofs.RereadingAnnexes.{package_texts, expected_texts, found_texts, same_annexed}
 use Rattle.ag_print.proofs.RereadingBack.{packages_back}
-use Rattle.ag_print.proofs.RereadingPrintable.{found_printable}
+use Rattle.ag_print.proofs.RereadingPrintable.{same_printable}
 use Rattle.ag_print.proofs.RereadingRules.{told, names_hold, sections_hold, is_quiet, obeys}
 use Rattle.ag_print.proofs.RereadingKept.{names_kept, sections_kept, timing_kept}
 
@@ -33,12 +36,6 @@ use Rattle.ag_print.proofs.RereadingKept.{names_kept, sections_kept, timing_kept
 abbrev pub marked_words : List Token → List Spelled → List Marked
 marked_words (t ∷ ts) (w ∷ ws) = record { mark = w.mark; terminal = terminal_of w.word.kind w.word.own; token = t } ∷ marked_words ts ws
 marked_words _ _ = []
-
-heads : {A : Type 0} {a b : A} {xs ys : List A} → (a ∷ xs) ≡ (b ∷ ys) → a ≡ b
-heads e = cc
-
-tails : {A : Type 0} {a b : A} {xs ys : List A} → (a ∷ xs) ≡ (b ∷ ys) → xs ≡ ys
-tails e = cc
 
 -- what is seen of the tokens is what the words are
 words_seen : (bytes : List ℕ) (tokens : List Token) (ws : List Spelled) → StandAs bytes tokens ws → map (seen_of bytes) (marked_words tokens ws) ≡ map seen ws
@@ -66,52 +63,69 @@ marked_so bytes (Shift mark ∷ steps) (t ∷ ts) (w ∷ ws) e m =
     (marked_so bytes steps ts ws (tails e) (tails m))
 
 -- the tokens that the words of packages stand as break no rule, and declare the same packages
-pub words_declare : (packages : List Package) → IsTrue (are_printable packages) → (bytes : List ℕ) (tokens : List Token) → StandAs bytes tokens (canonical_words packages)
-    → Declare bytes (marked_words tokens (canonical_words packages)) packages
-words_declare ps h bytes tokens e =
-    let ms = marked_words tokens (canonical_words ps) in
-    let lines = map seen (flat_map package_words ps) in
-    let are : map (seen_of bytes) ms ≡ lines = words_seen bytes tokens (canonical_words ps) e ∙ ap (map seen) (flat_packages ps) in (
-      obeys bytes ms start (ap (names_hold (told bytes start.names)) are ∙ names_kept ps (told bytes start.names)) (ap (sections_hold []) are ∙ sections_kept ps []) refl
-          (ap (list_all is_quiet) are ∙ timing_kept ps),
-      packages_seen bytes ms ∙ ap packages_in are ∙ packages_back ps h,
+words_declare : (packages : List Package) (stated : Stated) (bytes : List ℕ) (tokens : List Token) → StandAs bytes tokens (canonical_words packages stated)
+    → Declare bytes (marked_words tokens (canonical_words packages stated)) packages
+words_declare ps stated bytes tokens e =
+    let ms = marked_words tokens (canonical_words ps stated) in
+    let qs = paired ps stated in
+    let are : map (seen_of bytes) ms ≡ map seen (flat_map package_words qs) = words_seen bytes tokens (canonical_words ps stated) e ∙ ap (map seen) (flat_packages ps stated) in (
+      obeys bytes ms start (ap (names_hold (told bytes start.names)) are ∙ names_kept qs (told bytes start.names)) (ap (sections_hold []) are ∙ sections_kept qs []) refl
+          (ap (list_all is_quiet) are ∙ timing_kept qs),
+      packages_seen bytes ms ∙ ap packages_in are ∙ packages_back ps stated,
     )
 
 -- so do those that a derivation marks
-pub rereads : (packages : List Package) → IsTrue (are_printable packages) → (bytes : List ℕ) (tokens : List Token) (steps : List Step) → StandAs bytes tokens (canonical_words packages)
-    → marks_of steps ≡ marks_of_words (canonical_words packages) → Declare bytes (marked (terminals_of bytes tokens) tokens steps) packages
-rereads ps h bytes tokens steps e m =
-    subst (λ (z : List Marked). Declare bytes z ps) (sym (marked_so bytes steps tokens (canonical_words ps) e m)) (words_declare ps h bytes tokens e)
+pub rereads : (packages : List Package) (stated : Stated) (bytes : List ℕ) (tokens : List Token) (steps : List Step) → StandAs bytes tokens (canonical_words packages stated)
+    → marks_of steps ≡ marks_of_words (canonical_words packages stated) → Declare bytes (marked (terminals_of bytes tokens) tokens steps) packages
+rereads ps stated bytes tokens steps e m =
+    subst (λ (z : List Marked). Declare bytes z ps) (sym (marked_so bytes steps tokens (canonical_words ps stated) e m)) (words_declare ps stated bytes tokens e)
 
 -- what the law of spelling says
 abbrev pub CanonicalSpells : Type 0
-CanonicalSpells = (file : ℕ) (packages : List Package) → IsTrue (are_printable packages) → (tokens : List Token) × (steps : List Step) × IsReadCanonical file packages tokens steps
+CanonicalSpells = (file : ℕ) (packages : List Package) (stated : Stated) → IsTrue (are_printable packages) → StatedMayBePrinted packages stated
+    → (tokens : List Token) × (steps : List Step) × IsReadCanonical file packages stated tokens steps
+
+-- the canonical text read again, and the texts of its annexes
+pub record ReadAgain (file : ℕ) (packages : List Package) (stated : Stated) : Type 0 where
+  pub tokens : List Token
+  pub found : List Package
+  pub reread : IsReread file packages stated tokens found
+  pub texts : map (package_texts (canonical_text packages stated)) found ≡ map expected_texts (paired packages stated)
 
 -- the canonical text of printable packages is a file that declares the same ones
-pub text_rereads : CanonicalSpells → (file : ℕ) (packages : List Package) → IsTrue (are_printable packages) → (tokens : List Token) × (found : List Package) × IsReread file packages tokens found
-text_rereads spells file ps h =
-    let read = spells file ps h in
-    let bytes = canonical_text ps in
+pub read_again : OneClausesText → CanonicalSpells → (file : ℕ) (packages : List Package) (stated : Stated) → IsTrue (are_printable packages) → StatedMayBePrinted packages stated → ReadAgain file packages stated
+read_again one spells file ps stated h may =
+    let read = spells file ps stated h may in
+    let bytes = canonical_text ps stated in
     let ms = marked (terminals_of bytes read.0) read.0 read.1 in
-    let declare = rereads ps h bytes read.0 read.1 read.2.words read.2.marks in
-    let are : map (seen_of bytes) ms ≡ map seen (flat_map package_words ps) =
-    ap (map (seen_of bytes)) (marked_so bytes read.1 read.0 (canonical_words ps) read.2.words read.2.marks)
-    ∙ words_seen bytes read.0 (canonical_words ps) read.2.words ∙ ap (map seen) (flat_packages ps) in (
-      read.0,
-      packages_of bytes ms,
-      record {
+    let declare = rereads ps stated bytes read.0 read.1 read.2.words read.2.marks in
+    let are : map (seen_of bytes) ms ≡ map seen (flat_map package_words (paired ps stated)) =
+    ap (map (seen_of bytes)) (marked_so bytes read.1 read.0 (canonical_words ps stated) read.2.words read.2.marks)
+    ∙ words_seen bytes read.0 (canonical_words ps stated) read.2.words ∙ ap (map seen) (flat_packages ps stated) in
+    let found = packages_of bytes ms in
+    let texts = found_texts bytes ms ps stated are in
+    record {
+      tokens = read.0;
+      found = found;
+      reread = record {
         kept = read.2.kept;
         read = record { steps = read.1; text = read.2.text; obeyed = declare.0; told = refl };
         same = declare.1;
-        printable = found_printable bytes ms ps h are declare.1;
-        again = same_text (packages_of bytes ms) ps declare.1;
-      },
-    )
+        printable = same_printable found ps h declare.1;
+        again = λ others same. same_text one found ps others stated declare.1 (same_annexed bytes found ps stated texts) same;
+      };
+      texts = texts;
+    }
+
+pub text_rereads : OneClausesText → CanonicalSpells → (file : ℕ) (packages : List Package) (stated : Stated) → IsTrue (are_printable packages) → StatedMayBePrinted packages stated
+    → (tokens : List Token) × (found : List Package) × IsReread file packages stated tokens found
+text_rereads one spells file ps stated h may = let again = read_again one spells file ps stated h may in (again.tokens, again.found, again.reread)
 
 -- ---- one text, one list of packages
 
 abbrev pub CanonicalRereads : Type 0
-CanonicalRereads = (file : ℕ) (packages : List Package) → IsTrue (are_printable packages) → (tokens : List Token) × (found : List Package) × IsReread file packages tokens found
+CanonicalRereads = (file : ℕ) (packages : List Package) (stated : Stated) → IsTrue (are_printable packages) → StatedMayBePrinted packages stated
+    → (tokens : List Token) × (found : List Package) × IsReread file packages stated tokens found
 
 -- what the laws of reading say
 abbrev pub OneTokens : Type 0
@@ -120,12 +134,12 @@ OneTokens = (l : Language) (file : ℕ) (before text : List ℕ) (tokens others 
 abbrev pub OneFile : Type 0
 OneFile = (bytes : List ℕ) (tokens : List Token) (packages others : List Package) → IsFile bytes tokens packages → IsFile bytes tokens others → packages ≡ others
 
-pub same_packages : CanonicalRereads → OneTokens → OneFile → (packages others : List Package) → IsTrue (are_printable packages) → IsTrue (are_printable others)
-    → canonical_text packages ≡ canonical_text others → SamePackages packages others
-same_packages rereads one_tokens one_file ps qs h k e =
-    let first = rereads 0 ps h in
-    let second = rereads 0 qs k in
-    let text = canonical_text ps in
+pub same_packages : CanonicalRereads → OneTokens → OneFile → (packages others : List Package) (stated also : Stated) → IsTrue (are_printable packages) → IsTrue (are_printable others)
+    → StatedMayBePrinted packages stated → StatedMayBePrinted others also → canonical_text packages stated ≡ canonical_text others also → SamePackages packages others
+same_packages rereads one_tokens one_file ps qs s t h k may might e =
+    let first = rereads 0 ps s h may in
+    let second = rereads 0 qs t k might in
+    let text = canonical_text ps s in
     let kept : AreTokens Aadl 0 [] text second.0 = subst (λ (z : List ℕ). AreTokens Aadl 0 [] z second.0) (sym e) second.2.kept.read in
     let read : IsFile text second.0 second.1 = subst (λ (z : List ℕ). IsFile z second.0 second.1) (sym e) second.2.read in
     let tokens : second.0 ≡ first.0 = one_tokens Aadl 0 [] text second.0 first.0 kept first.2.kept.read in

@@ -1,11 +1,12 @@
--- Canonical lines are sound: each word is a name or a symbol of packages, and no two symbols stand side by side.
+-- Canonical lines are sound: each word is a name, an annex or a symbol of packages, and no two symbols stand side by side.
 use Rattle.std.proofs.Common.{◌≡◌, ℕ, Bool, true, false, not, ◌&&◌, ◌||◌, ◌==◌, List, [], ◌∷◌, ◌++◌, map, length, Option, Some, None, refl, sym, subst, codes, IsTrue, nat_le, leb-true, append_assoc}
-use Rattle.std.specs.List.{All, list_all, list_any, flat_map}
+use Rattle.std.specs.List.{All, AllZip, list_all, list_any}
 use Rattle.std.specs.Str.{bytes_eq}
 use Rattle.std.proofs.lemmas.Bool.{and_parts, and_from, and_right, not_from_false}
 use Rattle.std.proofs.lemmas.List.{append-nil}
 use Rattle.std.proofs.lemmas.List.Elements.{All-nil, All-cons}
-use Rattle.ag_lex.specs.declared.token.TokenKind.TheVariants.{Name, Symbol}
+use Rattle.ag_lex.specs.declared.token.Token.{Token}
+use Rattle.ag_lex.specs.declared.token.TokenKind.TheVariants.{Name, Annex, Symbol}
 use Rattle.ag_lex.specs.Spelling.{is_name}
 use Rattle.ag_aadl.specs.declared.packages.Path.{Path}
 use Rattle.ag_aadl.specs.declared.packages.Category.{Category}
@@ -21,12 +22,16 @@ use Rattle.ag_aadl.specs.declared.packages.Body.{Body}
 use Rattle.ag_aadl.specs.declared.packages.Item.{Item}
 use Rattle.ag_aadl.specs.declared.packages.Item.TheVariants as item
 use Rattle.ag_aadl.specs.declared.packages.Package.{Package}
-use Rattle.ag_aadl.specs.Marks.{unmarked, package_mark, part_mark, join_mark, import_mark, item_mark, owner_mark, declared_mark, feature_mark, direction_mark, event_mark, data_mark, class_body_mark, sub_mark, kind_mark, connection_mark, spot_mark, spot_port_mark, end_mark, end_owner_mark, end_name_mark, close_mark, features_mark, subcomponents_mark, connections_mark}
+use Rattle.ag_aadl.specs.Marks.{unmarked, package_mark, part_mark, join_mark, import_mark, item_mark, owner_mark, declared_mark, feature_mark, direction_mark, event_mark, data_mark, class_body_mark, sub_mark, kind_mark, connection_mark, spot_mark, spot_port_mark, annex_name_mark, end_mark, end_owner_mark, end_name_mark, close_mark, features_mark, subcomponents_mark, connections_mark}
 use Rattle.ag_aadl.specs.Terminals.{name}
 use Rattle.ag_aadl.specs.Words.{terminal_of}
-use Rattle.ag_print.specs.Canonical.{Spelled, name_at, sign_at, word, sign, name_parts, more_parts, parts_words, pname_words, body_words, package_parts, class_words, category_word, semicolon, section, direction_word, kind_words, port_line, sub_line, spot_words, wire_line, frame_lines, body_lines, item_lines, import_line, package_lines, canonical_lines}
-use Rattle.ag_print.specs.Layout.{Word, package_symbols, joins_before, joins_behind, runs_on, IsSoundLine}
-use Rattle.ag_print.specs.Printable.{is_plain_name, is_printable_ident, is_printable_option, is_printable_package_name, is_printable_owner, is_printable_class, may_carry, is_empty, is_printable_port, is_printable_sub, is_printable_end, is_printable_wire, is_printable_frame, is_printable_body, is_printable_item, is_printable_package, are_printable}
+use Rattle.ag_aadl.specs.Names.{name_parts}
+use Rattle.ag_annex.specs.declared.clauses.Clause.{Clause}
+use Rattle.ag_unparse.specs.Printable.{are_printable_clauses, AreLabelsText}
+use Rattle.ag_print.specs.Annexes.{Stated}
+use Rattle.ag_print.specs.Canonical.{Spelled, name_at, sign_at, word, sign, more_parts, parts_words, pname_words, body_words, package_parts, class_words, category_word, semicolon, section, direction_word, kind_words, port_line, sub_line, spot_words, wire_line, annex_bytes, annex_word, annex_line, annex_lines, frame_lines, body_lines, item_lines, items_lines, import_line, package_lines, canonical_lines}
+use Rattle.ag_print.specs.Layout.{Word, package_symbols, IsSpelled, joins_before, joins_behind, runs_on, IsSoundLine}
+use Rattle.ag_print.specs.Printable.{is_plain_name, is_printable_ident, is_printable_option, is_printable_package_name, is_printable_owner, is_printable_class, may_carry, is_printable_port, is_printable_sub, is_printable_end, is_printable_wire, is_printable_frame, is_printable_body, is_printable_item, is_printable_package, are_printable, ItemMayState, PackageMayState, StatedMayBePrinted}
 use Rattle.ag_print.specs.Spelling.{plain_words}
 use Rattle.ag_print.proofs.Names.{path_parts}
 
@@ -200,53 +205,73 @@ nothing_sound = record { line = tt }
 alone : (mark : ℕ) (own : List ℕ) → is_fit own ≡ true → IsSound (name_at mark own ∷ [])
 alone mark own h = fit_name mark own h nothing_sound
 
+-- ---- annexes
+
+-- what the laws of clauses say: an annex that states printable clauses, whose labels are text, is spelled
+abbrev pub AnnexesSpelled : Type 0
+AnnexesSpelled = (clauses : List Clause) → IsTrue (are_printable_clauses clauses) → AreLabelsText clauses → IsSpelled Annex (annex_bytes clauses)
+
+sound_annex : AnnexesSpelled → (mark : ℕ) (clauses : List Clause) → IsTrue (are_printable_clauses clauses) → AreLabelsText clauses → IsSound (annex_line mark clauses)
+sound_annex spelled mark clauses h labels =
+    let text : IsSound (annex_word clauses ∷ semicolon) = record { line = (spelled clauses h labels, refl, sound_end.line) } in
+    fit_name mark (codes "annex") refl (fit_name annex_name_mark (codes "agree") refl text)
+
+sound_annexes : AnnexesSpelled → (ts : List Token) (clauses : List Clause) → IsTrue (are_printable_clauses clauses) → AreLabelsText clauses → AreSound (annex_lines ts clauses)
+sound_annexes spelled [] clauses h labels = tt
+sound_annexes spelled (t ∷ ts) clauses h labels = (sound_annex spelled unmarked clauses h labels, tt)
+
 -- ---- declarations
 
-sound_frame : (f : Frame) → is_printable_frame f ≡ true → AreSound (frame_lines f)
-sound_frame f h =
-    let both = and_parts (is_printable_ident f.name) (list_all is_printable_port f.ports && is_empty f.annexes) h in
-    let ports = and_parts (list_all is_printable_port f.ports) (is_empty f.annexes) both.1 in
+sound_frame : AnnexesSpelled → (f : Frame) (clauses : List Clause) → is_printable_frame f ≡ true → ItemMayState (item.Frame f) clauses → AreSound (frame_lines f clauses)
+sound_frame spelled f clauses h may =
+    let both = and_parts (is_printable_ident f.name) (list_all is_printable_port f.ports) h in
     let head = fit_name item_mark (category_word f.category) (fit_category f.category) (plain_name declared_mark f.name.text both.0 nothing_sound) in
     let last = fit_name unmarked (codes "end") refl (plain_name end_name_mark f.name.text both.0 sound_end) in
     let heading = name_at features_mark (codes "features") in
-    let features = sound_section heading (map port_line f.ports) (alone features_mark (codes "features") refl) (sound_each port_line is_printable_port sound_port f.ports ports.0) in
-    (head, sound_lines (section heading (map port_line f.ports)) ((word (codes "end") ∷ name_at end_name_mark f.name.text ∷ semicolon) ∷ []) features (last, tt))
+    let features = sound_section heading (map port_line f.ports) (alone features_mark (codes "features") refl) (sound_each port_line is_printable_port sound_port f.ports both.1) in
+    let annexes = sound_annexes spelled f.annexes clauses may.printable.printable may.labels in
+    let ending = (word (codes "end") ∷ name_at end_name_mark f.name.text ∷ semicolon) ∷ [] in
+    (head, sound_lines (section heading (map port_line f.ports)) (annex_lines f.annexes clauses ++ ending) features (sound_lines (annex_lines f.annexes clauses) ending annexes (last, tt)))
 
-sound_body_lines : (b : Body) → is_printable_body b ≡ true → AreSound (body_lines b)
-sound_body_lines b h =
-    let framed = and_parts (is_printable_ident b.frame) (is_printable_ident b.name && (list_all is_printable_sub b.subs && (list_all is_printable_wire b.wires && is_empty b.annexes))) h in
-    let named = and_parts (is_printable_ident b.name) (list_all is_printable_sub b.subs && (list_all is_printable_wire b.wires && is_empty b.annexes)) framed.1 in
-    let all_subs = and_parts (list_all is_printable_sub b.subs) (list_all is_printable_wire b.wires && is_empty b.annexes) named.1 in
-    let all_wires = and_parts (list_all is_printable_wire b.wires) (is_empty b.annexes) all_subs.1 in
+sound_body_lines : AnnexesSpelled → (b : Body) (clauses : List Clause) → is_printable_body b ≡ true → ItemMayState (item.Body b) clauses → AreSound (body_lines b clauses)
+sound_body_lines spelled b clauses h may =
+    let framed = and_parts (is_printable_ident b.frame) (is_printable_ident b.name && (list_all is_printable_sub b.subs && list_all is_printable_wire b.wires)) h in
+    let named = and_parts (is_printable_ident b.name) (list_all is_printable_sub b.subs && list_all is_printable_wire b.wires) framed.1 in
+    let parts = and_parts (list_all is_printable_sub b.subs) (list_all is_printable_wire b.wires) named.1 in
     let own = sign_before unmarked (codes ".") is_dot (plain_name declared_mark b.name.text named.0 nothing_sound) in
     let head = fit_name item_mark (category_word b.category) (fit_category b.category) (fit_name unmarked (codes "implementation") refl (plain_name owner_mark b.frame.text framed.0 own)) in
     let dotted = sign_before unmarked (codes ".") is_dot (plain_name end_name_mark b.name.text named.0 sound_end) in
     let last = fit_name unmarked (codes "end") refl (plain_name end_owner_mark b.frame.text framed.0 dotted) in
     let subs_heading = name_at subcomponents_mark (codes "subcomponents") in
-    let subs = sound_section subs_heading (map sub_line b.subs) (alone subcomponents_mark (codes "subcomponents") refl) (sound_each sub_line is_printable_sub sound_sub b.subs all_subs.0) in
+    let subs = sound_section subs_heading (map sub_line b.subs) (alone subcomponents_mark (codes "subcomponents") refl) (sound_each sub_line is_printable_sub sound_sub b.subs parts.0) in
     let wires_heading = name_at connections_mark (codes "connections") in
-    let wires = sound_section wires_heading (map wire_line b.wires) (alone connections_mark (codes "connections") refl) (sound_each wire_line is_printable_wire sound_wire b.wires all_wires.0) in
+    let wires = sound_section wires_heading (map wire_line b.wires) (alone connections_mark (codes "connections") refl) (sound_each wire_line is_printable_wire sound_wire b.wires parts.1) in
+    let annexes = sound_annexes spelled b.annexes clauses may.printable.printable may.labels in
     let ending = (word (codes "end") ∷ name_at end_owner_mark b.frame.text ∷ sign (codes ".") ∷ name_at end_name_mark b.name.text ∷ semicolon) ∷ [] in
-    (head, sound_lines (section subs_heading (map sub_line b.subs)) (section wires_heading (map wire_line b.wires) ++ ending) subs (sound_lines (section wires_heading (map wire_line b.wires)) ending wires (last, tt)))
+    let behind = sound_lines (annex_lines b.annexes clauses) ending annexes (last, tt) in
+    let connected = sound_lines (section wires_heading (map wire_line b.wires)) (annex_lines b.annexes clauses ++ ending) wires behind in
+    (head, sound_lines (section subs_heading (map sub_line b.subs)) (section wires_heading (map wire_line b.wires) ++ (annex_lines b.annexes clauses ++ ending)) subs connected)
 
-sound_item : (i : Item) → is_printable_item i ≡ true → AreSound (item_lines i)
-sound_item (item.Frame f) h = sound_frame f h
-sound_item (item.Body b) h = sound_body_lines b h
-sound_item (item.Library t) h = tt
+sound_item : AnnexesSpelled → (i : Item) (clauses : List Clause) → is_printable_item i ≡ true → ItemMayState i clauses → AreSound (item_lines i clauses)
+sound_item spelled (item.Frame f) clauses h may = sound_frame spelled f clauses h may
+sound_item spelled (item.Body b) clauses h may = sound_body_lines spelled b clauses h may
+sound_item spelled (item.Library t) clauses h may = (sound_annex spelled item_mark clauses may.printable.printable may.labels, tt)
 
-sound_items : (items : List Item) → list_all is_printable_item items ≡ true → AreSound (flat_map item_lines items)
-sound_items [] h = tt
-sound_items (i ∷ items) h =
+sound_items : AnnexesSpelled → (items : List Item) (stated : List (List Clause)) → list_all is_printable_item items ≡ true → AllZip ItemMayState items stated → AreSound (items_lines items stated)
+sound_items spelled [] [] h may = tt
+sound_items spelled [] (c ∷ stated) h may = absurd may
+sound_items spelled (i ∷ items) [] h may = absurd may
+sound_items spelled (i ∷ items) (c ∷ stated) h may =
     let both = and_parts (is_printable_item i) (list_all is_printable_item items) h in
-    sound_lines (item_lines i) (flat_map item_lines items) (sound_item i both.0) (sound_items items both.1)
+    sound_lines (item_lines i c) (items_lines items stated) (sound_item spelled i c both.0 may.0) (sound_items spelled items stated both.1 may.1)
 
 sound_import : (i : Ident) → is_printable_package_name i ≡ true → IsSound (import_line i)
 sound_import i h = fit_name import_mark (codes "with") refl (sound_parts (name_parts i.text) h sound_end)
 
 -- ---- packages
 
-sound_package : (p : Package) → is_printable_package p ≡ true → AreSound (package_lines p)
-sound_package p h =
+sound_package : AnnexesSpelled → (p : Package) (stated : List (List Clause)) → is_printable_package p ≡ true → PackageMayState p stated → AreSound (package_lines p stated)
+sound_package spelled p stated h may =
     let named = and_parts (is_printable_package_name p.name) (list_all is_printable_package_name p.imports && list_all is_printable_item p.items) h in
     let parts = and_parts (list_all is_printable_package_name p.imports) (list_all is_printable_item p.items) named.1 in
     let whole = subst (λ (z : List Spelled). IsSound z) (append-nil (pname_words p.name)) (sound_parts (name_parts p.name.text) named.0 nothing_sound) in
@@ -254,14 +279,16 @@ sound_package p h =
     let last = fit_name end_mark (codes "end") refl (sound_parts (name_parts p.name.text) named.0 (sign_last close_mark (codes ";") is_semicolon)) in
     let ending = (name_at end_mark (codes "end") ∷ (pname_words p.name ++ sign_at close_mark (codes ";") ∷ [])) ∷ [] in
     let imports = sound_each import_line is_printable_package_name sound_import p.imports parts.0 in
-    let items = sound_items p.items parts.1 in
-    (head, (alone unmarked (codes "public") refl, sound_lines (map import_line p.imports) (flat_map item_lines p.items ++ ending) imports (sound_lines (flat_map item_lines p.items) ending items (last, tt))))
+    let items = sound_items spelled p.items stated parts.1 may in
+    (head, (alone unmarked (codes "public") refl, sound_lines (map import_line p.imports) (items_lines p.items stated ++ ending) imports (sound_lines (items_lines p.items stated) ending items (last, tt))))
 
-sound_packages : (ps : List Package) → are_printable ps ≡ true → AreSound (canonical_lines ps)
-sound_packages [] h = tt
-sound_packages (p ∷ ps) h =
+sound_packages : AnnexesSpelled → (ps : List Package) (stated : Stated) → are_printable ps ≡ true → StatedMayBePrinted ps stated → AreSound (canonical_lines ps stated)
+sound_packages spelled [] [] h may = tt
+sound_packages spelled [] (s ∷ stated) h may = absurd may
+sound_packages spelled (p ∷ ps) [] h may = absurd may
+sound_packages spelled (p ∷ ps) (s ∷ stated) h may =
     let both = and_parts (is_printable_package p) (are_printable ps) h in
-    sound_lines (package_lines p) (canonical_lines ps) (sound_package p both.0) (sound_packages ps both.1)
+    sound_lines (package_lines p s) (canonical_lines ps stated) (sound_package spelled p s both.0 may.0) (sound_packages spelled ps stated both.1 may.1)
 
 -- ---- the law
 
@@ -269,5 +296,5 @@ all_sound : (lines : List (List Spelled)) → AreSound lines → All IsSoundLine
 all_sound [] a = All-nil IsSoundLine
 all_sound (line ∷ lines) a = All-cons IsSoundLine (plain_words line) (map plain_words lines) a.0.line (all_sound lines a.1)
 
-pub lines_sound : (ps : List Package) → IsTrue (are_printable ps) → All IsSoundLine (map plain_words (canonical_lines ps))
-lines_sound ps h = all_sound (canonical_lines ps) (sound_packages ps h)
+pub lines_sound : AnnexesSpelled → (ps : List Package) (stated : Stated) → IsTrue (are_printable ps) → StatedMayBePrinted ps stated → All IsSoundLine (map plain_words (canonical_lines ps stated))
+lines_sound spelled ps stated h may = all_sound (canonical_lines ps stated) (sound_packages spelled ps stated h may)

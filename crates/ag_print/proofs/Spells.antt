@@ -21,7 +21,8 @@ use Rattle.ag_aadl.specs.Terminals.{name}
 use Rattle.ag_aadl.specs.Words.{terminal_of}
 use Rattle.ag_print.specs.Canonical.{Spelled, name_at, sign_at}
 use Rattle.ag_print.specs.Printable.{is_plain_name}
-use Rattle.ag_print.specs.Spelling.{marks_of, terminal_of_word, terminals_of_words, marks_of_words}
+use Rattle.ag_grammar.specs.Texts.{marks_of}
+use Rattle.ag_print.specs.Spelling.{terminal_of_word, terminals_of_words, marks_of_words}
 
 -- the symbols derive the words
 pub record Spells (symbols : List Symbol) (ws : List Spelled) : Type 0 where

@@ -12,9 +12,9 @@ use Rattle.std.proofs.lemmas.Slice.Eq.{starts_is, bytes_eq-Decides}
 use Rattle.ag_lex.specs.declared.token.Language.{Language}
 use Rattle.ag_lex.specs.declared.token.Language.TheVariants.{Aadl}
 use Rattle.ag_lex.specs.declared.token.TokenKind.{TokenKind}
-use Rattle.ag_lex.specs.declared.token.TokenKind.TheVariants.{Name, Symbol}
+use Rattle.ag_lex.specs.declared.token.TokenKind.TheVariants.{Name, Annex, Symbol}
 use Rattle.ag_lex.specs.Characters.{is_word_byte, is_sign, begins}
-use Rattle.ag_lex.specs.Spelling.{IsToken, is_name, is_symbol, goes_on, long_symbols}
+use Rattle.ag_lex.specs.Spelling.{IsToken, Spells, has_close, is_name, is_symbol, goes_on, long_symbols}
 use Rattle.ag_print.specs.Layout.{Word, is_one_of, joins_before, joins_behind, words_bytes, package_symbols, IsSpelled, run_together, runs_on, IsSoundLine}
 
 -- what the laws of tokens say
@@ -23,6 +23,9 @@ NamesEnd = (l : Language) (own rest : List ℕ) → IsTrue (is_name own) → IsT
 
 abbrev pub SymbolsEnd : Type 0
 SymbolsEnd = (l : Language) (own rest : List ℕ) → IsTrue (is_symbol own) → IsTrue (not (begins (goes_on own) rest)) → IsToken l Symbol own rest
+
+abbrev pub AnnexesEnd : Type 0
+AnnexesEnd = (l : Language) (inside rest : List ℕ) → IsTrue (not (has_close (inside ++ codes "**"))) → IsToken l Annex (codes "{**" ++ (inside ++ codes "**}")) rest
 
 -- ---- bytes
 
@@ -93,6 +96,14 @@ pub symbol_is : (own : List ℕ) → list_any (bytes_eq own) package_symbols ≡
 unfolding package_symbols long_symbols
 symbol_is own h = passes is_symbol own package_symbols refl h
 
+symbol_no_brace : (own : List ℕ) → list_any (bytes_eq own) package_symbols ≡ true → goes_on own 123 ≡ false
+unfolding package_symbols long_symbols
+symbol_no_brace own h = not-true (goes_on own 123) (passes (λ s. not (goes_on s 123)) own package_symbols refl h)
+
+-- an annex begins with `{`, which goes on with no symbol of packages
+annex_apart : (own next rest : List ℕ) → list_any (bytes_eq own) package_symbols ≡ true → Spells Aadl Annex next → begins (goes_on own) (next ++ rest) ≡ false
+annex_apart own next rest h t = rw t.1 (symbol_no_brace own h)
+
 begins_on : (p : ℕ → Bool) (own rest : List ℕ) → 0 < length own → begins p own ≡ false → begins p (own ++ rest) ≡ false
 begins_on p [] rest some h = absurd (omega arith)
 begins_on p (b ∷ bs) rest some h = h
@@ -120,6 +131,9 @@ ends_joined Name Name own next rest s t joined apart = absurd cc
 ends_joined Name Symbol own next rest s t joined apart = symbol_no_word next rest t
 ends_joined Symbol Name own next rest s t joined apart = name_no_sign next rest own t.0
 ends_joined Symbol Symbol own next rest s t joined apart = begins_on (goes_on own) next rest (symbol_filled next t) apart
+ends_joined Name Annex own next rest s t joined apart = absurd cc
+ends_joined Symbol Annex own next rest s t joined apart = annex_apart own next rest s t.0
+ends_joined Annex j own next rest s t joined apart = tt
 ends_joined Name _ own next rest s t joined apart = absurd t
 ends_joined Symbol _ own next rest s t joined apart = absurd t
 ends_joined _ j own next rest s t joined apart = absurd s
@@ -140,11 +154,12 @@ ends_word w (v ∷ vs) rest s =
 none_passes : (b : Bool) → b ≡ false → not b ≡ true
 none_passes b e = rw e refl
 
-token_ends : NamesEnd → SymbolsEnd → (k : TokenKind) (own rest : List ℕ) → IsSpelled k own → Ends k own rest → IsToken Aadl k own rest
-token_ends names symbols Name own rest s ends = names Aadl own rest s.0 (none_passes (begins is_word_byte rest) ends)
-token_ends names symbols Symbol own rest s ends = symbols Aadl own rest (symbol_is own s) (none_passes (begins (goes_on own) rest) ends)
-token_ends names symbols _ own rest s ends = absurd s
+token_ends : NamesEnd → SymbolsEnd → AnnexesEnd → (k : TokenKind) (own rest : List ℕ) → IsSpelled k own → Ends k own rest → IsToken Aadl k own rest
+token_ends names symbols annexes Name own rest s ends = names Aadl own rest s.0 (none_passes (begins is_word_byte rest) ends)
+token_ends names symbols annexes Symbol own rest s ends = symbols Aadl own rest (symbol_is own s) (none_passes (begins (goes_on own) rest) ends)
+token_ends names symbols annexes Annex own rest s ends = subst (λ (z : List ℕ). IsToken Aadl Annex z rest) (sym s.0.1) (annexes Aadl s.0.0 rest s.0.2)
+token_ends names symbols annexes _ own rest s ends = absurd s
 
 -- a word of a sound line stands there as a token
-pub token_stands : NamesEnd → SymbolsEnd → (w : Word) (ws : List Word) (rest : List ℕ) → IsSoundLine (w ∷ ws) → IsToken Aadl w.kind w.own (words_bytes (joins_behind w) ws ++ (10 ∷ rest))
-token_stands names symbols w ws rest s = token_ends names symbols w.kind w.own (words_bytes (joins_behind w) ws ++ (10 ∷ rest)) s.0 (ends_word w ws rest s)
+pub token_stands : NamesEnd → SymbolsEnd → AnnexesEnd → (w : Word) (ws : List Word) (rest : List ℕ) → IsSoundLine (w ∷ ws) → IsToken Aadl w.kind w.own (words_bytes (joins_behind w) ws ++ (10 ∷ rest))
+token_stands names symbols annexes w ws rest s = token_ends names symbols annexes w.kind w.own (words_bytes (joins_behind w) ws ++ (10 ∷ rest)) s.0 (ends_word w ws rest s)

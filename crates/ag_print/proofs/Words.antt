@@ -1,7 +1,7 @@
 -- The terminals of the words and symbols that canonical text consists of.
 use Rattle.std.proofs.Common.{◌≡◌, refl, codes}
 use Rattle.ag_lex.specs.declared.token.TokenKind.TheVariants.{Name, Symbol}
-use Rattle.ag_aadl.specs.Terminals.{package_word, public_word, with_word, end_word, system_word, process_word, thread_word, device_word, abstract_word, data_word, implementation_word, features_word, subcomponents_word, connections_word, in_word, out_word, event_word, port_word, colons, semicolon, colon, dot, arrow}
+use Rattle.ag_aadl.specs.Terminals.{name, package_word, public_word, with_word, end_word, system_word, process_word, thread_word, device_word, abstract_word, data_word, implementation_word, features_word, subcomponents_word, connections_word, annex_word, in_word, out_word, event_word, port_word, colons, semicolon, colon, dot, arrow}
 use Rattle.ag_aadl.specs.Words.{same, reserved_words, known_symbols, terminal_of}
 
 pub is_package : terminal_of Name (codes "package") ≡ package_word
@@ -59,6 +59,14 @@ is_subcomponents = refl
 pub is_connections : terminal_of Name (codes "connections") ≡ connections_word
 unfolding same reserved_words
 is_connections = refl
+
+pub is_annex : terminal_of Name (codes "annex") ≡ annex_word
+unfolding same reserved_words
+is_annex = refl
+
+pub is_agree : terminal_of Name (codes "agree") ≡ name
+unfolding same reserved_words
+is_agree = refl
 
 pub is_in : terminal_of Name (codes "in") ≡ in_word
 unfolding same reserved_words

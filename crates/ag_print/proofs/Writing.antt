@@ -10,7 +10,10 @@ use Rattle.std.proofs.lemmas.List.{append_assoc, append-nil, map-append, take_mo
 use Rattle.ag_print.specs.Layout.{Word, joins_before, joins_behind, words_bytes, line_bytes, text_bytes}
 use Rattle.ag_print.specs.Written.{Written, nothing, name_word, with_word, with_words, with_end, with_lines}
 use Rattle.ag_aadl.specs.Marks.{join_mark, part_mark}
-use Rattle.ag_print.specs.Canonical.{Spelled, name_at, sign_at, put_before, name_parts, parts_words, more_parts, section}
+use Rattle.ag_aadl.specs.Names.{put_before, name_parts}
+use Rattle.ag_annex.specs.declared.clauses.Clause.{Clause}
+use Rattle.ag_unparse.specs.Canonical.{clauses_text}
+use Rattle.ag_print.specs.Canonical.{Spelled, name_at, sign_at, parts_words, more_parts, section, annex_bytes, annex_word}
 
 pub words_more : (s : Written) (xs ys : List Spelled) → with_words s (xs ++ ys) ≡ with_words (with_words s xs) ys
 words_more s [] ys = refl
@@ -102,6 +105,21 @@ name_written s text =
 pub name_step : (s t : Written) (text bytes : List ℕ) → t ≡ record s { bytes = s.bytes ++ space_for s.joined } → bytes ≡ t.bytes ++ text → state bytes false ≡ with_words s (parts_words (name_parts text))
 name_step s t text bytes space added =
     ap (λ (z : List ℕ). state z false) (added ∙ ap (λ (w : Written). w.bytes ++ text) space) ∙ sym (name_written s text)
+
+-- an annex, written part by part
+annex_put : (bytes : List ℕ) (joined : Bool) (clauses : List Clause) → with_word (state bytes joined) (annex_word clauses).word ≡ state (bytes ++ (space_for joined ++ annex_bytes clauses)) false
+annex_put bytes true clauses = refl
+annex_put bytes false clauses = refl
+
+pub annex_step : (s t : Written) (clauses : List Clause) (opened listed closed : List ℕ) → t ≡ record s { bytes = s.bytes ++ space_for s.joined } → opened ≡ t.bytes ++ codes "{**\n" → listed ≡ opened ++ clauses_text clauses
+    → closed ≡ listed ++ codes "**}" → state closed false ≡ with_word s (annex_word clauses).word
+annex_step s t clauses opened listed closed space first second third =
+    let text = clauses_text clauses in
+    let front = s.bytes ++ space_for s.joined in
+    let are : closed ≡ ((front ++ codes "{**\n") ++ text) ++ codes "**}" =
+    third ∙ ap (λ (z : List ℕ). z ++ codes "**}") (second ∙ ap (λ (z : List ℕ). z ++ text) (first ∙ ap (λ (w : Written). w.bytes ++ codes "{**\n") space)) in
+    let grouped : ((front ++ codes "{**\n") ++ text) ++ codes "**}" ≡ s.bytes ++ (space_for s.joined ++ annex_bytes clauses) = simp append_assoc in
+    ap (λ (z : List ℕ). state z false) (are ∙ grouped) ∙ sym (annex_put s.bytes s.joined clauses)
 
 -- what two calls add
 pub both : (s t u : Written) (xs ys : List Spelled) → t ≡ with_words s xs → u ≡ with_words t ys → u ≡ with_words s (xs ++ ys)

@@ -1,7 +1,7 @@
 -- The canonical text of packages: its lines, word by word, each under the mark that the grammar gives it there.
-use Rattle.std.specs.Prelude.{ℕ, Bool, true, false, ◌==◌, ◌&&◌, List, [], ◌∷◌, ◌++◌, map, Option, Some, None, codes, if◌then◌else◌}
-use Rattle.std.specs.List.{flat_map}
-use Rattle.ag_lex.specs.declared.token.TokenKind.TheVariants.{Name, Symbol}
+use Rattle.std.specs.Prelude.{ℕ, Bool, true, false, List, [], ◌∷◌, ◌++◌, map, Option, Some, None, codes}
+use Rattle.ag_lex.specs.declared.token.Token.{Token}
+use Rattle.ag_lex.specs.declared.token.TokenKind.TheVariants.{Name, Annex, Symbol}
 use Rattle.ag_aadl.specs.declared.packages.Path.{Path}
 use Rattle.ag_aadl.specs.declared.packages.Category.{Category}
 use Rattle.ag_aadl.specs.declared.packages.Category.TheVariants.{System, Process, Thread, Device, Abstract}
@@ -17,7 +17,11 @@ use Rattle.ag_aadl.specs.declared.packages.Body.{Body}
 use Rattle.ag_aadl.specs.declared.packages.Item.{Item}
 use Rattle.ag_aadl.specs.declared.packages.Item.TheVariants as item
 use Rattle.ag_aadl.specs.declared.packages.Package.{Package}
-use Rattle.ag_aadl.specs.Marks.{unmarked, package_mark, part_mark, join_mark, import_mark, item_mark, owner_mark, declared_mark, feature_mark, direction_mark, event_mark, data_mark, class_body_mark, sub_mark, kind_mark, connection_mark, spot_mark, spot_port_mark, end_mark, end_owner_mark, end_name_mark, close_mark, features_mark, subcomponents_mark, connections_mark}
+use Rattle.ag_aadl.specs.Names.{name_parts}
+use Rattle.ag_aadl.specs.Marks.{unmarked, package_mark, part_mark, join_mark, import_mark, item_mark, owner_mark, declared_mark, feature_mark, direction_mark, event_mark, data_mark, class_body_mark, sub_mark, kind_mark, connection_mark, spot_mark, spot_port_mark, annex_name_mark, annex_text_mark, end_mark, end_owner_mark, end_name_mark, close_mark, features_mark, subcomponents_mark, connections_mark}
+use Rattle.ag_annex.specs.declared.clauses.Clause.{Clause}
+use Rattle.ag_unparse.specs.Canonical.{inside_text}
+use Rattle.ag_print.specs.Annexes.{Stated}
 use Rattle.ag_print.specs.Layout.{Word, text_bytes}
 
 -- a word and its mark
@@ -39,16 +43,7 @@ sign own = sign_at unmarked own
 
 -- ---- names
 
--- the parts of a package's name, which stand apart by `::`
-abbrev pub put_before : ℕ → List (List ℕ) → List (List ℕ)
-put_before b [] = (b ∷ []) ∷ []
-put_before b (part ∷ parts) = (b ∷ part) ∷ parts
-
-abbrev pub name_parts : List ℕ → List (List ℕ)
-name_parts [] = [] ∷ []
-name_parts (b ∷ []) = (b ∷ []) ∷ []
-name_parts (b ∷ c ∷ bs) = if b == 58 && c == 58 then [] ∷ name_parts bs else put_before b (name_parts (c ∷ bs))
-
+-- the parts of a package's name, apart by `::`
 abbrev pub more_parts : List (List ℕ) → List Spelled
 more_parts [] = []
 more_parts (part ∷ parts) = sign_at join_mark (codes "::") ∷ name_at part_mark part ∷ more_parts parts
@@ -120,38 +115,75 @@ wire_line w =
     name_at connection_mark w.name.text ∷ sign (codes ":") ∷ word (codes "port")
     ∷ (end_words w.from ++ (sign (codes "->") ∷ (end_words w.to ++ semicolon)))
 
-abbrev pub frame_lines : Frame → List (List Spelled)
-frame_lines f =
+-- the bytes of an annex that states these clauses
+abbrev pub annex_bytes : List Clause → List ℕ
+annex_bytes clauses = codes "{**" ++ (inside_text clauses ++ codes "**}")
+
+abbrev pub annex_word : List Clause → Spelled
+annex_word clauses = record { mark = annex_text_mark; word = record { kind = Annex; own = annex_bytes clauses } }
+
+-- an annex, with the mark of the word that it begins with
+abbrev pub annex_line : ℕ → List Clause → List Spelled
+annex_line mark clauses = name_at mark (codes "annex") ∷ name_at annex_name_mark (codes "agree") ∷ annex_word clauses ∷ semicolon
+
+-- all annexes of a component as one, if it has any
+abbrev pub annex_lines : List Token → List Clause → List (List Spelled)
+annex_lines [] clauses = []
+annex_lines (t ∷ ts) clauses = annex_line unmarked clauses ∷ []
+
+-- a component type whose annexes state these clauses
+abbrev pub frame_lines : Frame → List Clause → List (List Spelled)
+frame_lines f clauses =
     (name_at item_mark (category_word f.category) ∷ name_at declared_mark f.name.text ∷ [])
     ∷ (section (name_at features_mark (codes "features")) (map port_line f.ports)
-    ++ (word (codes "end") ∷ name_at end_name_mark f.name.text ∷ semicolon) ∷ [])
+    ++ (annex_lines f.annexes clauses
+    ++ (word (codes "end") ∷ name_at end_name_mark f.name.text ∷ semicolon) ∷ []))
 
-abbrev pub body_lines : Body → List (List Spelled)
-body_lines b =
+-- an implementation whose annexes state these clauses
+abbrev pub body_lines : Body → List Clause → List (List Spelled)
+body_lines b clauses =
     (name_at item_mark (category_word b.category) ∷ word (codes "implementation") ∷ name_at owner_mark b.frame.text ∷ sign (codes ".") ∷ name_at declared_mark b.name.text ∷ [])
     ∷ (section (name_at subcomponents_mark (codes "subcomponents")) (map sub_line b.subs)
     ++ (section (name_at connections_mark (codes "connections")) (map wire_line b.wires)
-    ++ (word (codes "end") ∷ name_at end_owner_mark b.frame.text ∷ sign (codes ".") ∷ name_at end_name_mark b.name.text ∷ semicolon) ∷ []))
+    ++ (annex_lines b.annexes clauses
+    ++ (word (codes "end") ∷ name_at end_owner_mark b.frame.text ∷ sign (codes ".") ∷ name_at end_name_mark b.name.text ∷ semicolon) ∷ [])))
 
--- a package's own annex has no lines yet
-abbrev pub item_lines : Item → List (List Spelled)
-item_lines (item.Frame f) = frame_lines f
-item_lines (item.Body b) = body_lines b
-item_lines (item.Library t) = []
+-- a declaration whose annexes state these clauses
+abbrev pub item_lines : Item → List Clause → List (List Spelled)
+item_lines (item.Frame f) clauses = frame_lines f clauses
+item_lines (item.Body b) clauses = body_lines b clauses
+item_lines (item.Library t) clauses = annex_line item_mark clauses ∷ []
+
+-- the first of some lists, and nothing where there is none
+abbrev pub first_list : {A : Type 0} → List (List A) → List A
+first_list [] = []
+first_list (xs ∷ more) = xs
+
+-- those behind it
+abbrev pub other_lists : {A : Type 0} → List (List A) → List (List A)
+other_lists [] = []
+other_lists (xs ∷ more) = more
+
+-- declarations, and for each the clauses that its annexes state
+abbrev pub items_lines : List Item → List (List Clause) → List (List Spelled)
+items_lines [] stated = []
+items_lines (i ∷ items) stated = item_lines i (first_list stated) ++ items_lines items (other_lists stated)
 
 abbrev pub import_line : Ident → List Spelled
 import_line i = name_at import_mark (codes "with") ∷ (pname_words i ++ semicolon)
 
-abbrev pub package_lines : Package → List (List Spelled)
-package_lines p =
+abbrev pub package_lines : Package → List (List Clause) → List (List Spelled)
+package_lines p stated =
     (name_at package_mark (codes "package") ∷ pname_words p.name)
     ∷ (word (codes "public") ∷ [])
     ∷ (map import_line p.imports
-    ++ (flat_map item_lines p.items
+    ++ (items_lines p.items stated
     ++ (name_at end_mark (codes "end") ∷ (pname_words p.name ++ sign_at close_mark (codes ";") ∷ [])) ∷ []))
 
-abbrev pub canonical_lines : List Package → List (List Spelled)
-canonical_lines packages = flat_map package_lines packages
+-- packages, and what the annexes of each state
+abbrev pub canonical_lines : List Package → Stated → List (List Spelled)
+canonical_lines [] stated = []
+canonical_lines (p ∷ packages) stated = package_lines p (first_list stated) ++ canonical_lines packages (other_lists stated)
 
-abbrev pub canonical_text : List Package → List ℕ
-canonical_text packages = text_bytes (map (map (λ s. s.word)) (canonical_lines packages))
+abbrev pub canonical_text : List Package → Stated → List ℕ
+canonical_text packages stated = text_bytes (map (map (λ s. s.word)) (canonical_lines packages stated))

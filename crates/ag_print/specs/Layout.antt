@@ -1,12 +1,13 @@
 -- Text as lines of words: where spaces stand, and which lines read again as their words.
 use Rattle.std.specs.Prelude.{ℕ, ◌≤◌, Bool, true, false, not, ◌&&◌, ◌||◌, List, [], ◌∷◌, ◌++◌, length, slice_range, IsTrue, codes, if◌then◌else◌}
 use Rattle.std.specs.List.{list_any, flat_map}
-use Rattle.std.specs.Str.{bytes_eq}
+use Rattle.std.specs.Str.{bytes_eq, IsUtf8}
+use Rattle.ag_lex.specs.declared.token.Language.TheVariants.{Aadl}
 use Rattle.ag_lex.specs.declared.token.Token.{Token}
 use Rattle.ag_lex.specs.declared.token.TokenKind.{TokenKind}
-use Rattle.ag_lex.specs.declared.token.TokenKind.TheVariants.{Name, Symbol}
+use Rattle.ag_lex.specs.declared.token.TokenKind.TheVariants.{Name, Annex, Symbol}
 use Rattle.ag_lex.specs.Characters.{begins}
-use Rattle.ag_lex.specs.Spelling.{is_name, goes_on}
+use Rattle.ag_lex.specs.Spelling.{Spells, is_name, goes_on}
 
 -- a token by its kind and its bytes, wherever it stands
 pub record Word : Type 0 where
@@ -42,13 +43,15 @@ text_bytes lines = flat_map line_bytes lines
 
 -- ---- lines that read again
 
--- the symbols of packages without annexes
+-- the symbols of packages
 unfoldable pub package_symbols : List (List ℕ)
 package_symbols = codes "::" ∷ codes "." ∷ codes ";" ∷ codes ":" ∷ codes "->" ∷ codes "," ∷ []
 
+-- a name, an annex in which all is text, or such a symbol
 abbrev pub IsSpelled : TokenKind → List ℕ → Type 0
 IsSpelled Name own = IsTrue (is_name own) × (length own ≤ 255)
 IsSpelled Symbol own = IsTrue (list_any (bytes_eq own) package_symbols)
+IsSpelled Annex own = Spells Aadl Annex own × IsUtf8 own
 IsSpelled _ own = ⊥
 
 -- the bytes of two symbols, one behind the other, begin with those of a longer one
@@ -61,7 +64,7 @@ abbrev pub runs_on : Word → List Word → Bool
 runs_on w [] = false
 runs_on w (v ∷ vs) = (joins_behind w || joins_before v) && run_together w.kind w.own v.kind v.own
 
--- each word of the line is a name or such a symbol, and none runs on into the next
+-- each word of the line is such a one, and none runs on into the next
 abbrev pub IsSoundLine : List Word → Type 0
 IsSoundLine [] = Unit {0}
 IsSoundLine (w ∷ ws) = IsSpelled w.kind w.own × IsTrue (not (runs_on w ws)) × IsSoundLine ws

@@ -1,10 +1,8 @@
--- When two lists of packages are the same but for the places of their names and for their annexes.
-use Rattle.std.specs.Prelude.{◌≡◌, List, [], map, Option, Some, None}
-use Rattle.ag_base.specs.declared.place.Place.{Place}
+-- When two lists of packages are the same but for the places of their names and for their annexes, and when those state the same.
+use Rattle.std.specs.Prelude.{◌≡◌, Bool, true, false, List, [], ◌∷◌, map, Option, Some, None}
 use Rattle.ag_lex.specs.declared.token.Token.{Token}
 use Rattle.ag_lex.specs.declared.token.TokenKind.TheVariants.{Name}
 use Rattle.ag_aadl.specs.declared.packages.Path.{Path}
-use Rattle.ag_aadl.specs.declared.packages.Ident.{Ident}
 use Rattle.ag_aadl.specs.declared.packages.Port.{Port}
 use Rattle.ag_aadl.specs.declared.packages.Frame.{Frame}
 use Rattle.ag_aadl.specs.declared.packages.Sub.{Sub}
@@ -14,27 +12,12 @@ use Rattle.ag_aadl.specs.declared.packages.Body.{Body}
 use Rattle.ag_aadl.specs.declared.packages.Item.{Item}
 use Rattle.ag_aadl.specs.declared.packages.Item.TheVariants as item
 use Rattle.ag_aadl.specs.declared.packages.Package.{Package}
-
--- one place that stands for all
-abbrev pub nowhere : Place
-nowhere = record { file = 0; line = 0; column = 0 }
+use Rattle.ag_unparse.specs.Same.{nowhere, bare_ident, bare_option, bare_path, bare_clause}
+use Rattle.ag_print.specs.Annexes.{Stated, item_annexes}
 
 -- one token that stands for all
 abbrev pub no_token : Token
 no_token = record { kind = Name; start = 0; end = 0; place = nowhere }
-
--- a name without its place
-abbrev pub bare_ident : Ident → Ident
-bare_ident i = record { text = i.text; place = nowhere }
-
--- a name that may be missing, without its place
-abbrev pub bare_option : Option Ident → Option Ident
-bare_option None = None
-bare_option (Some i) = Some (bare_ident i)
-
--- the use of a classifier without places
-abbrev pub bare_path : Path → Path
-bare_path p = record { «package» = bare_option p.«package»; name = bare_ident p.name; body = bare_option p.body }
 
 -- the use of a classifier that may be missing, without places
 abbrev pub bare_class : Option Path → Option Path
@@ -85,3 +68,19 @@ bare_package p = record { name = bare_ident p.name; imports = map bare_ident p.i
 -- the same packages in the same order: all but places and annexes is equal
 abbrev pub SamePackages : List Package → List Package → Type 0
 SamePackages ps qs = map bare_package ps ≡ map bare_package qs
+
+-- the same clauses for each declaration: all but places is equal
+abbrev pub SameStated : Stated → Stated → Type 0
+SameStated found stated = map (map (map bare_clause)) found ≡ map (map (map bare_clause)) stated
+
+abbrev pub is_any : {A : Type 0} → List A → Bool
+is_any [] = false
+is_any (x ∷ xs) = true
+
+-- for each declaration whether it has an annex
+abbrev pub annexed : Package → List Bool
+annexed p = map (λ i. is_any (item_annexes i)) p.items
+
+-- the same declarations have annexes, however many
+abbrev pub SameAnnexed : List Package → List Package → Type 0
+SameAnnexed ps qs = map annexed ps ≡ map annexed qs

@@ -1,26 +1,37 @@
 //! What canonical text is read as.
-ghost use Rattle.std.specs.Prelude.{◌≡◌, ℕ, List, [], None, IsTrue};
+ghost use Rattle.std.specs.Prelude.{ℕ, List, [], IsTrue};
+ghost use Rattle.std.specs.List.{All};
 ghost use Rattle.ag_grammar.specs.declared.grammar.Step.{Step};
 ghost use Rattle.ag_lex.specs.declared.token.Language.TheVariants.{Aadl};
 ghost use Rattle.ag_lex.specs.declared.token.Token.{Token};
 ghost use Rattle.ag_lex.specs.Answers.{AreKept};
 ghost use Rattle.ag_aadl.specs.declared.packages.Package.{Package};
 ghost use Rattle.ag_aadl.specs.Files.{IsFile};
-ghost use Rattle.ag_print.specs.Annexes.{first_annex};
-ghost use Rattle.ag_print.specs.Printable.{are_printable};
+ghost use Rattle.ag_print.specs.Annexes.{Stated, PackagesState, annexes_of_packages};
+ghost use Rattle.ag_print.specs.Printable.{are_printable, StatedMayBePrinted};
+ghost use Rattle.ag_print.specs.Shares.{IsOneOf};
 ghost use Rattle.ag_print.specs.Spelling.{IsReadCanonical};
 
 use crate::lines_read;
+use ag_unparse::{text_is_utf8, text_never_closes};
 
-/// The canonical text of packages breaks no rule of tokens, and its tokens are a text of the grammar,
-/// each under the mark that its word has.
+/// The canonical text of packages and of what their annexes state breaks no rule of tokens, and its tokens
+/// are a text of the grammar, each under the mark that its word has.
 pub fn canonical_spells()
-    ensures { (file : ℕ) (packages : List Package) → IsTrue (are_printable packages) → (tokens : List Token) × (steps : List Step) × IsReadCanonical file packages tokens steps }
+    ensures { (file : ℕ) (packages : List Package) (stated : Stated) → IsTrue (are_printable packages) → StatedMayBePrinted packages stated → (tokens : List Token) × (steps : List Step) × IsReadCanonical file packages stated tokens steps }
 {
+    text_never_closes();
+    text_is_utf8();
     lines_read();
 }
 
-/// The packages of a file are printable, if no `agree` annex stands in them.
+/// The packages of a file are printable, their annexes are annexes of the file, and what these state may
+/// be printed.
 pub fn files_are_printable()
-    ensures { (file : ℕ) (bytes : List ℕ) (tokens : List Token) (packages : List Package) → AreKept Aadl file [] bytes tokens → IsFile bytes tokens packages → first_annex packages ≡ None → IsTrue (are_printable packages) }
-{}
+    ensures packages { (file : ℕ) (bytes : List ℕ) (tokens : List Token) (packages : List Package) → AreKept Aadl file [] bytes tokens → IsFile bytes tokens packages → IsTrue (are_printable packages) }
+    ensures annexes { (file : ℕ) (bytes : List ℕ) (tokens : List Token) (packages : List Package) → AreKept Aadl file [] bytes tokens → IsFile bytes tokens packages → All (IsOneOf bytes) (annexes_of_packages packages) }
+    ensures stated { (file : ℕ) (bytes : List ℕ) (tokens : List Token) (packages : List Package) (stated : Stated) → AreKept Aadl file [] bytes tokens → IsFile bytes tokens packages → PackagesState bytes packages stated → StatedMayBePrinted packages stated }
+{
+    ag_unparse::annexes_may_be_printed();
+    ag_unparse::labels_are_text();
+}

@@ -1,87 +1,92 @@
 //! Packages as canonical text.
-ghost use Rattle.std.specs.Prelude.{◌≡◌, ◌≤◌, length, ◌∷◌, [], ◌++◌, map, codes, None, Err, OnOk, IfOk};
-ghost use Rattle.std.specs.List.{flat_map};
+ghost use Rattle.std.specs.Prelude.{◌≡◌, ◌≤◌, length, ◌∷◌, [], ◌++◌, map, take, drop, codes, Err, OnOk, IfOk};
+ghost use Rattle.std.specs.List.{All, AllZip};
 ghost use Rattle.ag_base.specs.declared.place.Refusal.{Refusal};
 ghost use Rattle.ag_base.specs.declared.place.Refused.TheVariants.{Model};
-ghost use Rattle.ag_base.specs.declared.place.Rule.TheVariants.{NotBuilt};
-ghost use Rattle.ag_aadl.specs.Marks.{features_mark, subcomponents_mark, connections_mark, close_mark};
-ghost use Rattle.ag_print.specs.Canonical.{canonical_text, package_lines, import_line, item_lines, frame_lines, port_line, body_lines, sub_line, wire_line, section, word, semicolon, pname_words, parts_words, package_parts, class_words, body_words, category_word as category_bytes, direction_word as direction_bytes, kind_words, end_words, sign, name_at, sign_at};
-ghost use Rattle.ag_print.specs.Annexes.{first_annex, IsNotBuiltAt};
+ghost use Rattle.ag_aadl.specs.Marks.{features_mark, subcomponents_mark, connections_mark, close_mark, item_mark};
+ghost use Rattle.ag_print.specs.Annexes.{Stated, PackagesState, IsAnnexRefused, annexes_of_packages, item_annexes};
+ghost use Rattle.ag_print.specs.Canonical.{canonical_text, package_lines, import_line, items_lines, item_lines, frame_lines, port_line, body_lines, sub_line, wire_line, annex_line, annex_lines, section, word, semicolon, pname_words, parts_words, package_parts, class_words, body_words, category_word as category_bytes, direction_word as direction_bytes, kind_words, end_words, sign, name_at, sign_at};
 ghost use Rattle.ag_print.specs.Printed.{IsReadOf, IsCanonical};
+ghost use Rattle.ag_print.specs.Shares.{IsOneOf, joined, items_share, behind_items, shares};
 ghost use Rattle.ag_print.specs.Written.{name_word, with_word, with_words, with_lines};
 
-use crate::annexes::first_annex;
+use crate::annexes::read_annexes;
 use crate::laws::files_are_printable;
-use crate::rereading::canonical_rereads;
+use crate::rereading::{annexes_reread, canonical_rereads};
 use crate::symbol::Symbol;
 use crate::writer::Writer;
 use ag_aadl::packages::{
     Body, Category, End, Frame, Ident, Item, Package, Path, Port, PortKind, Sub, Wire,
 };
-use ag_base::{Bytes, OutOfMemory, Refusal, Refused, Rule};
+use ag_annex::Clause;
+use ag_base::{Bytes, List, OutOfMemory, Refused};
 use ag_lex::Token;
 use std::alloc::Global;
 
-/// The canonical text of a file's packages, or NotBuilt at their first `agree` annex. The bytes are the
-/// file's; only the text of annexes is in them alone, and this version prints none.
-pub fn print_file(alloc: Global, _bytes: &[u8], packages: &[Package]) -> Result<Bytes, Refused>
-    requires short { length _bytes.now ≤ 4194304 }
-    requires read { IsReadOf _bytes.now packages.now }
-    // What is printed is the canonical text of packages that have no annex, and it reads again.
-    ensures ok { IfOk result (IsCanonical packages.now) }
-    ensures none { OnOk result (first_annex packages.now ≡ None) }
-    // The refusal is that of the first annex.
-    ensures refused { (r : Refusal) → result ≡ Err (Model r) → IsNotBuiltAt packages.now r }
+/// The canonical text of a file's packages and of what their annexes state, or the first rule that the
+/// annexes break. The bytes are the file's: the annexes are read in them.
+pub fn print_file(alloc: Global, bytes: &[u8], packages: &[Package]) -> Result<Bytes, Refused>
+    requires short { length bytes.now ≤ 4194304 }
+    requires read { IsReadOf bytes.now packages.now }
+    // What is printed is the canonical text of the packages and of what their annexes state, and it reads again.
+    ensures ok { IfOk result (λ text. (stated : Stated) × PackagesState bytes.now packages.now stated × IsCanonical packages.now stated text) }
+    // The refusal is the first broken rule of the annexes: first of the tokens of all, then of their grammar.
+    ensures refused { (r : Refusal) → result ≡ Err (Model r) → IsAnnexRefused bytes.now packages.now r }
 {
     files_are_printable();
     canonical_rereads();
-    print_packages(alloc, packages)
+    annexes_reread();
+    print_packages(alloc, bytes, packages)
 }
 
-// The canonical text of packages, or NotBuilt at their first annex.
-fn print_packages(alloc: Global, packages: &[Package]) -> Result<Bytes, Refused>
-    // What is printed is the canonical text of packages that have no annex.
-    ensures text { IfOk result (λ text. text ≡ canonical_text packages.now) }
-    ensures none { OnOk result (first_annex packages.now ≡ None) }
-    // The refusal is that of the first annex.
-    ensures refused { (r : Refusal) → result ≡ Err (Model r) → IsNotBuiltAt packages.now r }
+// The canonical text of packages, or the first rule that their annexes break.
+fn print_packages(alloc: Global, bytes: &[u8], packages: &[Package]) -> Result<Bytes, Refused>
+    requires short { length bytes.now ≤ 4194304 }
+    requires among { All (IsOneOf bytes.now) (annexes_of_packages packages.now) }
+    ensures text { IfOk result (λ text. (stated : Stated) × PackagesState bytes.now packages.now stated × (text ≡ canonical_text packages.now stated)) }
+    ensures refused { (r : Refusal) → result ≡ Err (Model r) → IsAnnexRefused bytes.now packages.now r }
 {
-    if let Some(annex) = first_annex(packages) {
-        return Err(Refused::Model(not_built(&annex)));
-    }
-    match write_packages(alloc, packages) {
+    let clauses = match read_annexes(alloc, bytes, packages) {
+        Ok(clauses) => clauses,
+        Err(refused) => return Err(refused),
+    };
+    match write_packages(alloc, packages, clauses.as_slice()) {
         Ok(text) => Ok(text),
         Err(OutOfMemory) => Err(Refused::OutOfMemory),
     }
 }
 
-fn not_built(annex: &Token) -> Refusal
-    ensures { result ≡ record { place = annex.now.place; rule = NotBuilt } }
-{
-    Refusal {
-        place: annex.place,
-        rule: Rule::NotBuilt,
-    }
-}
-
-fn write_packages(alloc: Global, packages: &[Package]) -> Result<Bytes, OutOfMemory>
-    ensures { IfOk result (λ text. text ≡ canonical_text packages.now) }
+// The canonical text of packages, of whose annexes each states one of the lists.
+fn write_packages(
+    alloc: Global,
+    packages: &[Package],
+    clauses: &[List<Clause>],
+) -> Result<Bytes, OutOfMemory>
+    ensures { IfOk result (λ text. text ≡ canonical_text packages.now (shares packages.now clauses.now)) }
 {
     let mut writer = Writer::new(alloc);
+    let mut rest = clauses;
     for package in packages {
-        write_package(&mut writer, package)?;
+        rest = write_package(&mut writer, package, rest)?;
     }
     Ok(writer.into_bytes())
 }
 
-fn write_package(writer: &mut Writer, package: &Package) -> Result<(), OutOfMemory>
-    ensures { OnOk result (writer.new ≡ with_lines writer.old (package_lines «package».now)) }
+/// Writes a package, and answers what the annexes behind it state.
+fn write_package<'a>(
+    writer: &mut Writer,
+    package: &Package,
+    clauses: &'a [List<Clause>],
+) -> Result<&'a [List<Clause>], OutOfMemory>
+    ensures rest { IfOk result (λ rest. rest.now ≡ behind_items «package».now.items clauses.now) }
+    ensures written { OnOk result (writer.new ≡ with_lines writer.old (package_lines «package».now (items_share «package».now.items clauses.now))) }
 {
     begin_package(writer, &package.name)?;
     write_heading(writer, "public")?;
     write_imports(writer, package.imports.as_slice())?;
-    write_items(writer, package.items.as_slice())?;
-    end_package(writer, &package.name)
+    let rest = write_items(writer, package.items.as_slice(), clauses)?;
+    end_package(writer, &package.name)?;
+    Ok(rest)
 }
 
 fn begin_package(writer: &mut Writer, name: &Ident) -> Result<(), OutOfMemory>
@@ -118,30 +123,91 @@ fn write_import(writer: &mut Writer, import: &Ident) -> Result<(), OutOfMemory>
     end_statement(writer)
 }
 
-fn write_items(writer: &mut Writer, items: &[Item]) -> Result<(), OutOfMemory>
-    ensures { OnOk result (writer.new ≡ with_lines writer.old (flat_map item_lines items.now)) }
+/// Writes declarations, and answers what the annexes behind them state.
+fn write_items<'a>(
+    writer: &mut Writer,
+    items: &[Item],
+    clauses: &'a [List<Clause>],
+) -> Result<&'a [List<Clause>], OutOfMemory>
+    ensures rest { IfOk result (λ rest. rest.now ≡ behind_items items.now clauses.now) }
+    ensures written { OnOk result (writer.new ≡ with_lines writer.old (items_lines items.now (items_share items.now clauses.now))) }
 {
+    let mut rest = clauses;
     for item in items {
-        write_item(writer, item)?;
+        let (own, behind) = first_of(rest, annex_count(item));
+        write_item(writer, item, own)?;
+        rest = behind;
     }
-    Ok(())
+    Ok(rest)
 }
 
-fn write_item(writer: &mut Writer, item: &Item) -> Result<(), OutOfMemory>
-    ensures { OnOk result (writer.new ≡ with_lines writer.old (item_lines item.now)) }
+/// The first so many lists, if there are as many, and those behind.
+fn first_of(lists: &[List<Clause>], count: usize) -> (&[List<Clause>], &[List<Clause>])
+    ensures first { result.0.now ≡ take count lists.now }
+    ensures behind { result.1.now ≡ drop count lists.now }
+{
+    let count = if count < lists.len() {
+        count
+    } else {
+        lists.len()
+    };
+    lists.split_at(count)
+}
+
+fn annex_count(item: &Item) -> usize
+    ensures { result ≡ length (item_annexes item.now) }
 {
     match item {
-        Item::Frame(frame) => write_frame(writer, frame),
-        Item::Body(body) => write_body(writer, body),
-        Item::Library(_) => Ok(()),
+        Item::Frame(frame) => frame.annexes.len(),
+        Item::Body(body) => body.annexes.len(),
+        Item::Library(_) => 1,
     }
 }
 
-fn write_frame(writer: &mut Writer, frame: &Frame) -> Result<(), OutOfMemory>
-    ensures { OnOk result (writer.new ≡ with_lines writer.old (frame_lines frame.now)) }
+/// Writes a declaration whose annexes state these clauses.
+fn write_item(writer: &mut Writer, item: &Item, clauses: &[List<Clause>]) -> Result<(), OutOfMemory>
+    ensures { OnOk result (writer.new ≡ with_lines writer.old (item_lines item.now (joined clauses.now))) }
+{
+    match item {
+        Item::Frame(frame) => write_frame(writer, frame, clauses),
+        Item::Body(body) => write_body(writer, body, clauses),
+        Item::Library(_) => write_annex(writer, clauses),
+    }
+}
+
+/// Writes the annexes of a component as one, if it has any.
+fn write_annexes(
+    writer: &mut Writer,
+    annexes: &[Token],
+    clauses: &[List<Clause>],
+) -> Result<(), OutOfMemory>
+    ensures { OnOk result (writer.new ≡ with_lines writer.old (annex_lines annexes.now (joined clauses.now))) }
+{
+    if annexes.is_empty() {
+        return Ok(());
+    }
+    write_annex(writer, clauses)
+}
+
+fn write_annex(writer: &mut Writer, clauses: &[List<Clause>]) -> Result<(), OutOfMemory>
+    ensures { OnOk result (writer.new ≡ with_lines writer.old (annex_line item_mark (joined clauses.now) ∷ [])) }
+{
+    writer.name("annex")?;
+    writer.name("agree")?;
+    writer.annex(clauses)?;
+    end_statement(writer)
+}
+
+fn write_frame(
+    writer: &mut Writer,
+    frame: &Frame,
+    clauses: &[List<Clause>],
+) -> Result<(), OutOfMemory>
+    ensures { OnOk result (writer.new ≡ with_lines writer.old (frame_lines frame.now (joined clauses.now))) }
 {
     begin_frame(writer, frame)?;
     write_ports(writer, frame.ports.as_slice())?;
+    write_annexes(writer, frame.annexes.as_slice(), clauses)?;
     end_frame(writer, frame)
 }
 
@@ -187,12 +253,13 @@ fn write_port(writer: &mut Writer, port: &Port) -> Result<(), OutOfMemory>
     end_statement(writer)
 }
 
-fn write_body(writer: &mut Writer, body: &Body) -> Result<(), OutOfMemory>
-    ensures { OnOk result (writer.new ≡ with_lines writer.old (body_lines body.now)) }
+fn write_body(writer: &mut Writer, body: &Body, clauses: &[List<Clause>]) -> Result<(), OutOfMemory>
+    ensures { OnOk result (writer.new ≡ with_lines writer.old (body_lines body.now (joined clauses.now))) }
 {
     begin_body(writer, body)?;
     write_subs(writer, body.subs.as_slice())?;
     write_wires(writer, body.wires.as_slice())?;
+    write_annexes(writer, body.annexes.as_slice(), clauses)?;
     end_body(writer, body)
 }
 

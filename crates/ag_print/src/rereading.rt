@@ -5,34 +5,51 @@ ghost use Rattle.ag_lex.specs.declared.token.Token.{Token};
 ghost use Rattle.ag_aadl.specs.declared.packages.Package.{Package};
 ghost use Rattle.ag_aadl.specs.Marked.{marked};
 ghost use Rattle.ag_aadl.specs.Words.{terminals_of};
+ghost use Rattle.ag_print.specs.Annexes.{Stated};
 ghost use Rattle.ag_print.specs.Canonical.{canonical_text};
-ghost use Rattle.ag_print.specs.Printable.{are_printable};
-ghost use Rattle.ag_print.specs.Rereading.{StandAs, Declare, IsReread};
-ghost use Rattle.ag_print.specs.Same.{SamePackages};
-ghost use Rattle.ag_print.specs.Spelling.{marks_of, canonical_words, marks_of_words};
+ghost use Rattle.ag_print.specs.Printable.{are_printable, StatedMayBePrinted};
+ghost use Rattle.ag_print.specs.Printed.{AllShallow};
+ghost use Rattle.ag_print.specs.Rereading.{StandAs, Declare, IsReread, AreStatedAgain};
+ghost use Rattle.ag_print.specs.Same.{SamePackages, SameStated, SameAnnexed};
+ghost use Rattle.ag_grammar.specs.Texts.{marks_of};
+ghost use Rattle.ag_print.specs.Spelling.{canonical_words, marks_of_words};
 
-use crate::laws::canonical_spells;
+use crate::laws::{canonical_spells, files_are_printable};
 
 /// The words of packages read back: in any text, and whatever stands between them, the tokens that they
 /// stand as break no rule and declare the same packages.
 pub fn words_reread()
-    ensures { (packages : List Package) → IsTrue (are_printable packages) → (bytes : List ℕ) (tokens : List Token) (steps : List Step) → StandAs bytes tokens (canonical_words packages) → marks_of steps ≡ marks_of_words (canonical_words packages) → Declare bytes (marked (terminals_of bytes tokens) tokens steps) packages }
+    ensures { (packages : List Package) (stated : Stated) (bytes : List ℕ) (tokens : List Token) (steps : List Step) → StandAs bytes tokens (canonical_words packages stated) → marks_of steps ≡ marks_of_words (canonical_words packages stated) → Declare bytes (marked (terminals_of bytes tokens) tokens steps) packages }
 {}
 
 /// The canonical text of packages is a file that breaks no rule and declares the same packages, which are
 /// printed as the same text again.
 pub fn canonical_rereads()
-    ensures { (file : ℕ) (packages : List Package) → IsTrue (are_printable packages) → (tokens : List Token) × (found : List Package) × IsReread file packages tokens found }
+    ensures { (file : ℕ) (packages : List Package) (stated : Stated) → IsTrue (are_printable packages) → StatedMayBePrinted packages stated → (tokens : List Token) × (found : List Package) × IsReread file packages stated tokens found }
 {
     canonical_spells();
+    ag_unparse::one_text();
 }
 
-/// Packages are the same exactly where they have one canonical text.
+/// The annexes in it state the same clauses, if no level of their text passes the limit.
+pub fn annexes_reread()
+    ensures { (file : ℕ) (packages : List Package) (stated : Stated) → IsTrue (are_printable packages) → StatedMayBePrinted packages stated → AllShallow stated → AreStatedAgain file packages stated }
+{
+    canonical_spells();
+    files_are_printable();
+    ag_unparse::one_text();
+    ag_unparse::clauses_reread();
+    ag_lex::tokens_stand();
+}
+
+/// Packages that are the same, have annexes at the same declarations and state the same have one canonical text,
+/// and those that have one are the same.
 pub fn one_text()
-    ensures text { (packages others : List Package) → SamePackages packages others → canonical_text packages ≡ canonical_text others }
-    ensures same { (packages others : List Package) → IsTrue (are_printable packages) → IsTrue (are_printable others) → canonical_text packages ≡ canonical_text others → SamePackages packages others }
+    ensures text { (packages others : List Package) (stated also : Stated) → SamePackages packages others → SameAnnexed packages others → SameStated stated also → canonical_text packages stated ≡ canonical_text others also }
+    ensures same { (packages others : List Package) (stated also : Stated) → IsTrue (are_printable packages) → IsTrue (are_printable others) → StatedMayBePrinted packages stated → StatedMayBePrinted others also → canonical_text packages stated ≡ canonical_text others also → SamePackages packages others }
 {
     canonical_rereads();
+    ag_unparse::one_text();
     ag_lex::one_reading();
     ag_aadl::one_reading();
 }

@@ -51,36 +51,102 @@ public
 end E;
 ";
 
+const ANNEXES: &str = "package P public
+annex agree {** const n : int = 1; **};
+annex other {** x **};
+system S
+  annex agree {** assume \"a\" : x; **};
+  features x : in data port Base_Types::Boolean;
+  annex AGREE {** guarantee \"g\" : x and (x or not x) -> pre(x);
+    eq y : int = if x then n + 1 else P::n * 2; -- two
+  **};
+end S;
+system implementation S.i
+  annex agree {****};
+  subcomponents t : thread;
+  connections c : port x -> t.y;
+end S.i;
+annex agree {** node f(a : int) returns (b : int, c : bool);
+  var d : bool; let b = f(a, 1); c = true; tel; **};
+end P;";
+
+const CANONICAL_ANNEXES: &str = "package P
+public
+annex agree {**
+const n : int = 1;
+**};
+system S
+features
+x : in data port Base_Types::Boolean;
+annex agree {**
+assume \"a\" : x;
+guarantee \"g\" : ((x and (x or (not x))) -> pre(x));
+eq y : int = (if x then (n + 1) else (P::n * 2));
+**};
+end S;
+system implementation S.i
+subcomponents
+t : thread;
+connections
+c : port x -> t.y;
+annex agree {**
+**};
+end S.i;
+annex agree {**
+node f (a : int) returns (b : int, c : bool); var d : bool; let b = f(a, 1); c = true; tel;
+**};
+end P;
+";
+
 #[test]
 fn prints_packages(rt: HostRuntime) -> Result<(), Fail> {
-    let rows = [("", ""), (PACKAGE, CANONICAL), (CANONICAL, CANONICAL)];
+    let rows = [
+        ("", ""),
+        (PACKAGE, CANONICAL),
+        (CANONICAL, CANONICAL),
+        (ANNEXES, CANONICAL_ANNEXES),
+        (CANONICAL_ANNEXES, CANONICAL_ANNEXES),
+    ];
     for (text, canonical) in &rows {
         let text = printed(rt.alloc(), text)
             .ok()
-            .ok_or("the text is a file without annexes")?;
+            .ok_or("the text is a file that breaks no rule")?;
         assert_eq!(rt; text.as_slice(), canonical.as_bytes());
     }
     Ok(())
 }
 
-// Texts with the line and column of their first annex.
+// Texts with the place and the rule of the first refusal of their annexes.
 #[test]
 fn refuses_annexes(rt: HostRuntime) {
     let rows = [
-        ("package P public annex agree {****}; end P;", 1, 30),
         (
-            "package P public\nsystem S annex other {** x **}; annex AGREE {** y **}; end S; end P;",
+            "package P public annex agree {** ) **}; annex agree {** \"a **}; end P;",
+            1,
+            57,
+            Rule::OpenString,
+        ),
+        (
+            "package P public annex agree {** const n : int = 1; **};
+system S annex agree {** lemma \"l\" : x; **}; end S;
+system T annex agree {** x **}; end T; end P;",
             2,
-            45,
+            26,
+            Rule::Misplaced,
+        ),
+        (
+            "package P public annex agree {** const n : int = ; **}; end P;",
+            1,
+            50,
+            Rule::Expected,
         ),
     ];
-    for (text, line, column) in &rows {
+    for (text, line, column, rule) in rows {
         let place = Place {
             file: 0,
-            line: *line,
-            column: *column,
+            line,
+            column,
         };
-        let rule = Rule::NotBuilt;
         match printed(rt.alloc(), text) {
             Err(refused) => assert_eq!(rt; refused, Refused::Model(Refusal { place, rule })),
             Ok(_) => assert!(rt; false, "{text}"),

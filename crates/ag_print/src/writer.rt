@@ -1,10 +1,16 @@
 //! Writing text word by word.
 ghost use Rattle.std.specs.Prelude.{◌≡◌, ◌++◌, [], codes, OnOk, if◌then◌else◌};
+ghost use Rattle.std.specs.String.{string_bytes};
+ghost use Rattle.ag_unparse.specs.Canonical.{clauses_text};
 ghost use Rattle.ag_print.specs.Written.{name_word, symbol_word, nothing, with_word, with_words, with_end};
-ghost use Rattle.ag_print.specs.Canonical.{name_parts, parts_words};
+ghost use Rattle.ag_aadl.specs.Names.{name_parts};
+ghost use Rattle.ag_print.specs.Canonical.{parts_words, annex_word};
+ghost use Rattle.ag_print.specs.Shares.{joined};
 
 use crate::symbol::Symbol;
+use ag_annex::Clause;
 use ag_base::{Bytes, List, OutOfMemory};
+use ag_unparse::write_clauses;
 use std::alloc::Global;
 use std::marker::Model;
 
@@ -69,6 +75,18 @@ impl Writer {
         Ok(())
     }
 
+    /// Writes one annex that states all these clauses, behind a space if one is due.
+    pub fn annex(&mut self, clauses: &[List<Clause>]) -> Result<(), OutOfMemory>
+        ensures { OnOk result (self.new ≡ with_word self.old (annex_word (joined clauses.now)).word) }
+    {
+        self.space()?;
+        self.text.push_str("{**\n")?;
+        write_lists(&mut self.text, clauses)?;
+        self.text.push_str("**}")?;
+        self.joined = false;
+        Ok(())
+    }
+
     /// Ends the line.
     pub fn end_line(&mut self) -> Result<(), OutOfMemory>
         ensures { OnOk result (self.new ≡ with_end self.old) }
@@ -95,4 +113,14 @@ impl Writer {
         }
         Ok(())
     }
+}
+
+/// Writes the canonical text of the clauses of some lists, a line for each.
+fn write_lists(text: &mut String, lists: &[List<Clause>]) -> Result<(), OutOfMemory>
+    ensures { OnOk result (string_bytes text.new ≡ string_bytes text.old ++ clauses_text (joined lists.now)) }
+{
+    for list in lists {
+        write_clauses(text, list.as_slice())?;
+    }
+    Ok(())
 }

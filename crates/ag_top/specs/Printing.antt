@@ -1,5 +1,6 @@
--- What a print of the source promises: the canonical text of the packages that were read, or the refusal that the text gets.
-use Rattle.std.specs.Prelude.{◌≡◌, ◌⊎◌, ◌<◌, ◌≤◌, [], ℕ, List, length, Option, None}
+-- What a print of the source promises: the canonical text of the packages that were read and of what their annexes state, or the
+-- refusal that the text gets.
+use Rattle.std.specs.Prelude.{◌≡◌, ◌⊎◌, ◌<◌, ◌≤◌, [], ℕ, List, length, Option}
 use Rattle.ag_base.specs.declared.place.Refusal.{Refusal}
 use Rattle.ag_base.specs.declared.status.Status.{Status}
 use Rattle.ag_base.specs.declared.status.Status.TheVariants as statuses
@@ -9,7 +10,7 @@ use Rattle.ag_lex.specs.Rules.{IsFirstBroken}
 use Rattle.ag_lex.specs.Answers.{AreKept}
 use Rattle.ag_aadl.specs.declared.packages.Package.{Package}
 use Rattle.ag_aadl.specs.Files.{IsFile, IsFirstWrong}
-use Rattle.ag_print.specs.Annexes.{IsNotBuiltAt, first_annex}
+use Rattle.ag_print.specs.Annexes.{Stated, PackagesState, IsAnnexRefused}
 use Rattle.ag_print.specs.Printed.{IsCanonical}
 use Rattle.ag_top.specs.Commands.{Grows}
 use Rattle.ag_top.specs.Entries.{PlainEntry}
@@ -23,12 +24,13 @@ pub record Declares (text : List ℕ) (packages : List Package) : Type 0 where
   pub kept : AreKept Aadl 0 [] text tokens
   pub file : IsFile text tokens packages
 
--- the text declares packages without an annex, and this is their canonical text
+-- the text declares packages, whose annexes state clauses, and this is the canonical text of both
 pub record IsPrinted (text printed : List ℕ) : Type 0 where
   pub packages : List Package
   pub declared : Declares text packages
-  pub none : first_annex packages ≡ None
-  pub canonical : IsCanonical packages printed
+  pub stated : Stated
+  pub states : PackagesState text packages stated
+  pub canonical : IsCanonical packages stated printed
 
 -- the text breaks no rule of tokens, and this is the first broken rule of the grammar of packages
 pub record IsNoFile (text : List ℕ) (r : Refusal) : Type 0 where
@@ -36,15 +38,15 @@ pub record IsNoFile (text : List ℕ) (r : Refusal) : Type 0 where
   pub kept : AreKept Aadl 0 [] text tokens
   pub wrong : IsFirstWrong text tokens r
 
--- the text declares packages, the first annex of which isn't built
-pub record HasAnnex (text : List ℕ) (r : Refusal) : Type 0 where
+-- the text declares packages, and this is the first broken rule of their annexes
+pub record HasWrongAnnex (text : List ℕ) (r : Refusal) : Type 0 where
   pub packages : List Package
   pub declared : Declares text packages
-  pub annex : IsNotBuiltAt packages r
+  pub refused : IsAnnexRefused text packages r
 
--- the refusal of the text: the first broken rule of tokens, else of the grammar, else that of the first annex
+-- The refusal of the text: the first broken rule of the file's tokens, else of the grammar of packages, else of their annexes.
 abbrev pub IsPrintRefused : List ℕ → Refusal → Type 0
-IsPrintRefused text r = IsFirstBroken Aadl 0 [] text r ⊎ (IsNoFile text r ⊎ HasAnnex text r)
+IsPrintRefused text r = IsFirstBroken Aadl 0 [] text r ⊎ (IsNoFile text r ⊎ HasWrongAnnex text r)
 
 -- a text was printed
 pub record IsTextPrinted (text : List ℕ) (history : List PlainEntry) (before now : Option (List ℕ)) : Type 0 where

@@ -3,7 +3,7 @@ use Rattle.std.specs.Prelude.{ℕ, ◌++◌, List, [], codes, decimal}
 use Rattle.ag_base.specs.declared.place.Refusal.{Refusal}
 use Rattle.ag_base.specs.declared.place.Rule.{Rule}
 use Rattle.ag_base.specs.declared.place.Rule.TheVariants.{NotUtf8, BadByte, OpenString, OpenAnnex, LongName, WideNumber, TooDeep, Unsupported, Expected, EndName, Twice, Misplaced, NoPackage, NotImported, NoClassifier, NoPort, Direction, PortType, TwoSources, Recursive, Unknown, Mismatch, Arity, NodeRecursion, NotLinear, BadDivisor, Coefficient, TooManyStreams, TooManyParts, Cycle, TooManyObligations, NotBuilt}
-use Rattle.ag_aadl.specs.Unsupported.{word_text}
+use Rattle.ag_annex.specs.Unsupported.{word_text}
 
 -- a rule by its name
 abbrev pub rule_name : Rule → List ℕ

@@ -5,6 +5,8 @@
 //! of what was read. Start at `agree` in top.rt, and at specs/Outcome.antt and specs/Printing.antt.
 #![tactic(auto)]
 
+#[cfg(test)]
+mod annex_tests;
 mod board;
 mod check;
 pub mod history;

@@ -1,4 +1,5 @@
-//! The print of one text: the canonical text of its packages, or the refusal that it gets.
+//! The print of one text: the canonical text of its packages and of what their annexes state, or the
+//! refusal that it gets.
 ghost use Rattle.std.specs.Prelude.{◌≡◌, ◌≤◌, [], length, IfOk, Err};
 ghost use Rattle.ag_base.specs.Outside.{Rose};
 ghost use Rattle.ag_base.specs.declared.place.Refusal.{Refusal};
@@ -17,7 +18,7 @@ use ag_lex::file_tokens;
 use ag_print::print_file;
 use std::alloc::Global;
 
-/// The canonical text of the packages that a text declares.
+/// The canonical text of the packages that a text declares, and of what their annexes state.
 fn printed(alloc: Global, text: &[u8]) -> Result<Bytes, Refused>
     requires { length text.now ≤ 4194304 }
     ensures ok { IfOk result (IsPrinted text.now) }
@@ -28,7 +29,8 @@ fn printed(alloc: Global, text: &[u8]) -> Result<Bytes, Refused>
     print_file(alloc, text, packages.as_slice())
 }
 
-/// Prints the packages that a text declares, or tells why there is nothing to print.
+/// Prints the packages that a text declares and what their annexes state, or tells why there is
+/// nothing to print.
 pub fn print_text<K: Sink>(alloc: Global, text: &[u8], sink: &mut K) -> Done
     requires { length text.now ≤ 4194304 }
     ensures printed { result.status ≡ statuses.AllGood → IsTextPrinted text.now result.history (K.written sink.old) (K.written sink.new) }

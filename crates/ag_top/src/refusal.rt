@@ -3,7 +3,7 @@ ghost use Rattle.std.specs.Prelude.{◌≡◌, ◌++◌, IfOk, OnOk};
 ghost use Rattle.std.specs.String.{string_bytes};
 ghost use Rattle.ag_top.specs.Refusals.{rule_name, word_behind, refusal_text};
 
-use ag_aadl::word_text;
+use ag_annex::word_text;
 use ag_base::{Bytes, List, OutOfMemory, Place, Refusal, Rule};
 use std::alloc::Global;
 

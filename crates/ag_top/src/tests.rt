@@ -44,7 +44,7 @@ closed 1: 1 proved, 0 refuted, 0 consistent, 1 inconsistent, 0 unknown
 ";
 
 /// A run on these words and this text, of which one byte is read at a time.
-fn expect<R: Threads + Wait + Abort + Sync>(
+pub fn expect<R: Threads + Wait + Abort + Sync>(
     rt: &R,
     alloc: Global,
     words: &[&str],
@@ -57,7 +57,7 @@ fn expect<R: Threads + Wait + Abort + Sync>(
 }
 
 /// The same on bytes that may be no text.
-fn expect_of_bytes<R: Threads + Wait + Abort + Sync>(
+pub fn expect_of_bytes<R: Threads + Wait + Abort + Sync>(
     rt: &R,
     alloc: Global,
     words: &[&str],
@@ -142,6 +142,26 @@ end S;
 system implementation S.i
 annex agree {**
 assign o = a and b;
+**};
+end S.i;
+end P;
+";
+
+const PRINTED_MODEL: &str = "package P
+public
+with Base_Types;
+system S
+features
+a : in data port Base_Types::Boolean;
+b : in data port Base_Types::Boolean;
+o : out data port Base_Types::Boolean;
+annex agree {**
+guarantee \"g\" : (o => a);
+**};
+end S;
+system implementation S.i
+annex agree {**
+assign o = (a and b);
 **};
 end S.i;
 end P;
@@ -382,6 +402,8 @@ fn prints_what_it_reads(rt: HostRuntime) -> Result<(), Fail> {
         (PRINTED_DEVICE, PRINTED_DEVICE),
         (PARTS, PRINTED_PARTS),
         (PRINTED_PARTS, PRINTED_PARTS),
+        (PACKAGE, PACKAGE),
+        (MODEL, PRINTED_MODEL),
     ];
     for (text, output) in &rows {
         let wanted = (*output, Status::AllGood, 0);
@@ -426,16 +448,6 @@ fn refuses_to_print(rt: HostRuntime) -> Result<(), Fail> {
             "package P\npublic\nsystem implementation S.i\nconnections\nc : port a -> b {Timing => delayed;};\nend S.i;\nend P;",
             "5:28 Unsupported delayed",
         ),
-        // The first annex, once the grammar is kept.
-        (PACKAGE, "9:13 NotBuilt"),
-        (
-            "package P\npublic\nannex other {** **};\nannex AGREE {** **};\nend P;",
-            "4:13 NotBuilt",
-        ),
-        (
-            "package P\npublic\nannex agree {** **};\nend Q;",
-            "4:5 EndName",
-        ),
     ];
     for (text, refusal) in &rows {
         let output = format!(in rt.alloc(); "refused -:{refusal}\n")?;
@@ -466,8 +478,10 @@ fn a_print_ends_where_the_outside_fails(rt: HostRuntime) -> Result<(), Fail> {
         (DEVICE, (0, 1), 4096, ("", Status::WriteFault, 0)),
         (DEVICE, (0, 2), 13, (front, Status::WriteFault, 0)),
         (DEVICE, (0, 2), 4096, (PRINTED_DEVICE, Status::AllGood, 0)),
+        ("x", (0, 1), 4096, ("", Status::WriteFault, 0)),
+        ("x", (0, 0), 9, ("refused -", Status::WriteFault, 0)),
         (PACKAGE, (0, 1), 4096, ("", Status::WriteFault, 0)),
-        (PACKAGE, (0, 0), 9, ("refused -", Status::WriteFault, 0)),
+        (PACKAGE, (0, 0), 9, ("package P", Status::WriteFault, 0)),
         ("", (0, 1), 4096, ("", Status::AllGood, 0)),
         ("", (1, 0), 4096, ("", Status::ReadFault, 0)),
     ];

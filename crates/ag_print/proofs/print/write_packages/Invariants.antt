@@ -1,8 +1,8 @@
-use Rattle.std.proofs.Common.{◌≡◌, take}
-use Rattle.std.specs.List.{flat_map}
-use Rattle.ag_print.specs.Written.{with_lines}
-use Rattle.ag_print.specs.Canonical.{package_lines}
+use Rattle.std.proofs.Common.{◌≡◌, drop}
+use Rattle.ag_print.specs.Canonical.{canonical_lines}
+use Rattle.ag_print.specs.Shares.{shares}
+use Rattle.ag_print.specs.Written.{nothing, with_lines}
 use Rattle.ag_print.proofs.print.write_packages.Given as goal
 
 abbrev pub invariant-loop-package : goal.invariant-loop-package
-invariant-loop-package l = l.writer ≡ with_lines l.initial.writer (flat_map package_lines (take l.package-index l.packages))
+invariant-loop-package l = with_lines l.writer (canonical_lines (drop l.package-index l.packages) (shares (drop l.package-index l.packages) l.rest)) ≡ with_lines nothing (canonical_lines l.packages (shares l.packages l.clauses))

@@ -1,9 +1,9 @@
-use Rattle.std.proofs.Common.{List, sym, subst, inl, inr}
+use Rattle.std.proofs.Common.{List, subst, inl, inr}
 use Rattle.std.proofs.lemmas.Result.{err_from_is_err_and}
 use Rattle.ag_lex.specs.declared.token.Token.{Token}
 use Rattle.ag_aadl.specs.Files.{IsFile, IsFirstWrong}
 use Rattle.ag_aadl.specs.declared.packages.Package.{Package}
-use Rattle.ag_print.specs.Annexes.{IsNotBuiltAt}
+use Rattle.ag_print.specs.Annexes.{IsAnnexRefused}
 use Rattle.ag_top.proofs.print.printed.Goals as goal
 
 pub returns-in_err-packages-clause-refused : goal.returns-in_err-packages-clause-refused
@@ -24,5 +24,5 @@ returns-clause-refused c = λ r e.
         kept = c.in_ok-tokens.ensures.ok;
         file = subst (λ (tokens : List Token). IsFile c.args.text.now tokens c.in_ok-packages.packages) c.as_slice.ensures c.in_ok-packages.ensures.ok;
       };
-      annex = subst (λ (packages : List Package). IsNotBuiltAt packages r) c.as_slice-2.ensures (c.print_file.ensures.refused r e);
+      refused = subst (λ (packages : List Package). IsAnnexRefused c.args.text.now packages r) c.as_slice-2.ensures (c.print_file.ensures.refused r e);
     })
