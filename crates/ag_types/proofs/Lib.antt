@@ -1,0 +1,6 @@
+-- Lemmas.
+pub mod Breaking
+pub mod Typing
+pub mod Sound
+pub mod Orders
+pub mod Seeing
