@@ -31,7 +31,7 @@ pairwise-last : (a b : ℕ) (o p q r : Bool) → o ≡ (p || (not q && r)) → p
 pairwise-last a b o p q r h = grind (arith, nat_tests)
 
 -- of two broken rules the second is answered only where it comes before the first
-comes_before : Refusal → Refusal → Bool
+pub comes_before : Refusal → Refusal → Bool
 comes_before s r = pairwise s.place.file r.place.file (pairwise s.place.line r.place.line (pairwise s.place.column r.place.column (nat_lt (order_of s.rule) (order_of r.rule))))
 
 nat_lt-trans : (a b c : ℕ) → nat_lt a b ≡ true → nat_lt b c ≡ true → nat_lt a c ≡ true
@@ -40,7 +40,7 @@ nat_lt-trans a b c e f = grind (arith, nat_tests)
 pub nat_lt-skips : (a b c : ℕ) → nat_lt a b ≡ false → nat_lt b c ≡ false → nat_lt a c ≡ false
 nat_lt-skips a b c e f = grind (arith, nat_tests)
 
-comes_before-trans : (r s t : Refusal) → comes_before r s ≡ true → comes_before s t ≡ true → comes_before r t ≡ true
+pub comes_before-trans : (r s t : Refusal) → comes_before r s ≡ true → comes_before s t ≡ true → comes_before r t ≡ true
 unfolding comes_before
 comes_before-trans r s t =
     pairwise-trans r.place.file s.place.file t.place.file _ _ _
@@ -48,7 +48,7 @@ comes_before-trans r s t =
     (pairwise-trans r.place.column s.place.column t.place.column _ _ _
     (nat_lt-trans (order_of r.rule) (order_of s.rule) (order_of t.rule))))
 
-comes_before-skips : (r s t : Refusal) → comes_before r s ≡ false → comes_before s t ≡ false → comes_before r t ≡ false
+pub comes_before-skips : (r s t : Refusal) → comes_before r s ≡ false → comes_before s t ≡ false → comes_before r t ≡ false
 unfolding comes_before
 comes_before-skips r s t =
     pairwise-skips r.place.file s.place.file t.place.file _ _ _
@@ -56,11 +56,22 @@ comes_before-skips r s t =
     (pairwise-skips r.place.column s.place.column t.place.column _ _ _
     (nat_lt-skips (order_of r.rule) (order_of s.rule) (order_of t.rule))))
 
+pairwise-self : (a : ℕ) (rest : Bool) → rest ≡ false → pairwise a a rest ≡ false
+pairwise-self a rest e = grind (arith, nat_tests)
+
+nat_lt-self : (a : ℕ) → nat_lt a a ≡ false
+nat_lt-self a = grind (arith, nat_tests)
+
+-- nothing comes before itself
+pub comes_before-self : (r : Refusal) → comes_before r r ≡ false
+unfolding comes_before
+comes_before-self r = pairwise-self r.place.file _ (pairwise-self r.place.line _ (pairwise-self r.place.column _ (nat_lt-self (order_of r.rule))))
+
 -- at one column the order of rules decides
 last_column : (a b : ℕ) (r : Bool) → pairwise a b r ≡ (nat_lt a b || (not (nat_lt b a) && r))
 last_column a b r = grind (arith, nat_tests)
 
-comes_before-by_place : (r s : Refusal) → comes_before s r ≡ (is_before s.place r.place || (not (is_before r.place s.place) && nat_lt (order_of s.rule) (order_of r.rule)))
+pub comes_before-by_place : (r s : Refusal) → comes_before s r ≡ (is_before s.place r.place || (not (is_before r.place s.place) && nat_lt (order_of s.rule) (order_of r.rule)))
 unfolding comes_before
 comes_before-by_place r s =
     pairwise-last s.place.file r.place.file _ _ _ (nat_lt (order_of s.rule) (order_of r.rule))
@@ -72,13 +83,13 @@ chosen true b c r s = refl
 chosen false true c r s = refl
 chosen false false c r s = refl
 
-first_refusal-is : (r s : Refusal) → first_refusal r s ≡ (if comes_before s r then s else r)
+pub first_refusal-is : (r s : Refusal) → first_refusal r s ≡ (if comes_before s r then s else r)
 first_refusal-is r s = chosen (is_before s.place r.place) (is_before r.place s.place) (nat_lt (order_of s.rule) (order_of r.rule)) r s ∙ rw (comes_before-by_place r s) refl
 
-takes : (r s : Refusal) → comes_before s r ≡ true → first_refusal r s ≡ s
+pub takes : (r s : Refusal) → comes_before s r ≡ true → first_refusal r s ≡ s
 takes r s e = first_refusal-is r s ∙ ap (λ (b : Bool). if b then s else r) e
 
-keeps : (r s : Refusal) → comes_before s r ≡ false → first_refusal r s ≡ r
+pub keeps : (r s : Refusal) → comes_before s r ≡ false → first_refusal r s ≡ r
 keeps r s e = first_refusal-is r s ∙ ap (λ (b : Bool). if b then s else r) e
 
 first_refusal-assoc : (r s t : Refusal) → first_refusal (first_refusal r s) t ≡ first_refusal r (first_refusal s t)
@@ -104,7 +115,7 @@ pub either-none : (a : Option Refusal) → either a None ≡ a
 either-none None = refl
 either-none (Some r) = refl
 
-first_with-is : (r : Refusal) (o : Option Refusal) → Some (first_with r o) ≡ either (Some r) o
+pub first_with-is : (r : Refusal) (o : Option Refusal) → Some (first_with r o) ≡ either (Some r) o
 first_with-is r None = refl
 first_with-is r (Some s) = refl
 

@@ -1,6 +1,14 @@
 -- Lemmas.
+pub mod Answering
 pub mod Breaking
-pub mod Typing
-pub mod Sound
+pub mod BreakingMore
+pub mod Claiming
+pub mod Each
+pub mod EarliestNames
+pub mod Leasts
+pub mod NextNames
 pub mod Orders
-pub mod Seeing
+pub mod Placing
+pub mod Sound
+pub mod TwiceNames
+pub mod Typing

@@ -68,17 +68,17 @@ broken_choice names place t u v =
 
 -- ---- arguments as a list
 
-mismatches_of_items : (names : Names) (vs : List Var) {n : _} (row : Row_of-Term n) → argument_mismatches names vs row ≡ mismatches_in names vs (items-the_row-Term n row)
+pub mismatches_of_items : (names : Names) (vs : List Var) {n : _} (row : Row_of-Term n) → argument_mismatches names vs row ≡ mismatches_in names vs (items-the_row-Term n row)
 mismatches_of_items names [] end_of-Term = refl
 mismatches_of_items names [] (more_of-Term t rest) = refl
 mismatches_of_items names (v ∷ vs) end_of-Term = refl
 mismatches_of_items names (v ∷ vs) (more_of-Term t rest) = ap (λ (z : List Refusal). mismatch (Some v.ty) (type_in names t) (first_place t) ++ z) (mismatches_of_items names vs rest)
 
-faults_of_items : (names : Names) {n : _} (row : Row_of-Term n) → faults_in_all names row ≡ faults_among names (items-the_row-Term n row)
+pub faults_of_items : (names : Names) {n : _} (row : Row_of-Term n) → faults_in_all names row ≡ faults_among names (items-the_row-Term n row)
 faults_of_items names end_of-Term = refl
 faults_of_items names (more_of-Term t rest) = ap (λ (z : List Refusal). faults_in names t ++ z) (faults_of_items names rest)
 
-arguments_of_items : {n : _} (row : Row_of-Term n) → arguments_in row ≡ length (items-the_row-Term n row)
+pub arguments_of_items : {n : _} (row : Row_of-Term n) → arguments_in row ≡ length (items-the_row-Term n row)
 arguments_of_items end_of-Term = refl
 arguments_of_items (more_of-Term t rest) = ap suc (arguments_of_items rest)
 

@@ -1,7 +1,6 @@
 //! Names in order, so that a lookup halves them instead of going over all.
 ghost use Rattle.std.specs.Prelude.{◌≡◌, ◌++◌, ℕ, List, codes, OnOk};
 ghost use Rattle.std.specs.List.Sorted.{IsSortedBy};
-ghost use Rattle.std.specs.Option.{option_copied};
 ghost use Rattle.ag_types.specs.Indexed.{compare_names, is_below, first_by};
 ghost use Rattle.ag_types.specs.Seen.{dotted};
 
@@ -9,32 +8,32 @@ use ag_aadl::packages::Path;
 use ag_base::OutOfMemory;
 use std::cmp::Ordering;
 
-/// What is declared, beside its name.
-#[derive(Drop)]
-pub struct Entry<'a, T> {
+/// A name, and the position of what has it.
+#[derive(Clone, Copy)]
+pub struct Slot<'a> {
     pub name: &'a [u8],
-    pub item: &'a T,
+    pub at: usize,
 }
 
-/// Puts entries into the order of their names. Those of one name stay in the order that they had.
-pub fn sort<T>(entries: &mut Vec<Entry<'_, T>>) -> Result<(), OutOfMemory>
-    ensures sorted { OnOk result (IsSortedBy (is_below (λ e. e.name.now)) entries.new.items) }
-    ensures named { OnOk result ((name : List ℕ) → first_by (λ e. e.name.now) (λ e. e.item.now) name entries.new.items ≡ first_by (λ e. e.name.now) (λ e. e.item.now) name entries.old.items) }
+/// Puts names into their order. Those that are the same stay in the order that they had.
+pub fn sort(slots: &mut Vec<Slot<'_>>) -> Result<(), OutOfMemory>
+    ensures sorted { OnOk result (IsSortedBy (is_below (λ e. e.name.now)) slots.new.items) }
+    ensures named { OnOk result ((name : List ℕ) → first_by (λ e. e.name.now) (λ e. e.at) name slots.new.items ≡ first_by (λ e. e.name.now) (λ e. e.at) name slots.old.items) }
 {
-    entries.sort_by(|a, b| compare(a.name, b.name))?;
+    slots.sort_by(|a, b| compare(a.name, b.name))?;
     Ok(())
 }
 
-/// The first entry of the name `x` or `c.x` that a path without package has.
-pub fn find<'a, T>(entries: &[Entry<'a, T>], path: &Path) -> Option<&'a T>
-    requires { IsSortedBy (is_below (λ e. e.name.now)) entries.now }
-    ensures { option_copied result ≡ first_by (λ e. e.name.now) (λ e. e.item.now) (dotted path.now.name.text path.now.body) entries.now }
+/// The position of the name `x` or `c.x` that a path without package has.
+pub fn find(slots: &[Slot<'_>], path: &Path) -> Option<usize>
+    requires { IsSortedBy (is_below (λ e. e.name.now)) slots.now }
+    ensures { result ≡ first_by (λ e. e.name.now) (λ e. e.at) (dotted path.now.name.text path.now.body) slots.now }
 {
-    let at = entries.partition_point(|entry| order(entry.name, path).is_lt());
-    match entries.get(at) {
-        Some(entry) => {
-            if order(entry.name, path).is_eq() {
-                Some(entry.item)
+    let at = slots.partition_point(|slot| order(slot.name, path).is_lt());
+    match slots.get(at) {
+        Some(slot) => {
+            if order(slot.name, path).is_eq() {
+                Some(slot.at)
             } else {
                 None
             }
@@ -43,16 +42,16 @@ pub fn find<'a, T>(entries: &[Entry<'a, T>], path: &Path) -> Option<&'a T>
     }
 }
 
-/// The first entry of a name.
-pub fn find_name<'a, T>(entries: &[Entry<'a, T>], name: &[u8]) -> Option<&'a T>
-    requires { IsSortedBy (is_below (λ e. e.name.now)) entries.now }
-    ensures { option_copied result ≡ first_by (λ e. e.name.now) (λ e. e.item.now) name.now entries.now }
+/// The position of a name.
+pub fn find_name(slots: &[Slot<'_>], name: &[u8]) -> Option<usize>
+    requires { IsSortedBy (is_below (λ e. e.name.now)) slots.now }
+    ensures { result ≡ first_by (λ e. e.name.now) (λ e. e.at) name.now slots.now }
 {
-    let at = entries.partition_point(|entry| compare(entry.name, name).is_lt());
-    match entries.get(at) {
-        Some(entry) => {
-            if compare(entry.name, name).is_eq() {
-                Some(entry.item)
+    let at = slots.partition_point(|slot| compare(slot.name, name).is_lt());
+    match slots.get(at) {
+        Some(slot) => {
+            if compare(slot.name, name).is_eq() {
+                Some(slot.at)
             } else {
                 None
             }
@@ -61,8 +60,8 @@ pub fn find_name<'a, T>(entries: &[Entry<'a, T>], name: &[u8]) -> Option<&'a T>
     }
 }
 
-// Texts in the order of their bytes in small letters.
-fn compare(a: &[u8], b: &[u8]) -> Ordering
+/// Texts in the order of their bytes in small letters.
+pub fn compare(a: &[u8], b: &[u8]) -> Ordering
     ensures { result ≡ compare_names a.now b.now }
 {
     let mut left = b;

@@ -1,35 +1,38 @@
-//! The names that an annex sees: streams, constants and nodes, in any case of their letters.
-ghost use Rattle.std.specs.Prelude.{◌≡◌, ◌++◌, ℕ, List, OnOk, IfOk};
-ghost use Rattle.std.specs.List.{flat_map};
-ghost use Rattle.std.specs.List.Sorted.{IsSortedBy};
+//! A scope: clauses that break no rule on names and types, and what they see.
+ghost use Rattle.std.specs.Prelude.{◌≡◌, Err, IfOk};
 ghost use Rattle.std.specs.Option.{option_copied};
 ghost use Rattle.std.specs.Coded.{codes};
 ghost use Rattle.std.proofs.Props.{props};
 ghost use Rattle.ag_annex.specs.contracts.terms.Term as term;
-ghost use Rattle.ag_types.specs.Indexed.{is_below, first_by, pairs};
-ghost use Rattle.ag_types.specs.Seen.{Seen, names_seen, values_in, nodes_in, value_named, node_named, value_of, node_of};
+ghost use Rattle.ag_base.specs.declared.place.Refusal.{Refusal};
+ghost use Rattle.ag_base.specs.declared.place.Refused.TheVariants.{Model};
+ghost use Rattle.ag_types.specs.Answers.{IsRefusal, IsSound};
+ghost use Rattle.ag_types.specs.ClauseFaults.{faults_of};
+ghost use Rattle.ag_types.specs.Places.{first_broken};
+ghost use Rattle.ag_types.specs.Seen.{Seen, names_seen, value_of, node_of};
+ghost use Rattle.ag_types.specs.Types.{IsTyped, IsIllTyped};
 
-use crate::index::{Entry, find, sort};
+use crate::faults::first_fault;
+use crate::sight::Sight;
+use crate::sites::{Site, Sites};
+use crate::types::type_of_term;
 use ag_aadl::packages::Path;
-use ag_annex::{Clause, NodeDef, Var};
-use ag_base::OutOfMemory;
+use ag_annex::{Clause, NodeDef, Term, Ty, Var};
+use ag_base::{OutOfMemory, Refusal, Refused};
 use std::alloc::Global;
 use std::marker::Model;
 
-/// What an annex sees: the clauses of its package's own annexes, of its component type's and of its
-/// implementation's, and the streams of ports. It lends these, and finds names in them.
+/// The clauses of a package's own annexes, of a component type's and of an implementation's, and the
+/// streams of ports, which together break no rule on names and types. It lends these, and finds names
+/// in them.
 #[derive(Drop)]
 pub struct Scope<'a> {
     library: &'a [Clause],
     frame: &'a [Clause],
     body: &'a [Clause],
     ports: &'a [Var],
-    values: Vec<Entry<'a, Var>>,
-    nodes: Vec<Entry<'a, NodeDef>>,
-    ghost values_sorted: { IsSortedBy (is_below (λ e. e.name.now)) values.items } by { Prim.hlevel props },
-    ghost values_named: { (name : List ℕ) → first_by (λ e. e.name.now) (λ e. e.item.now) name values.items ≡ value_named name (ports.now ++ flat_map values_in (library.now ++ (frame.now ++ body.now))) } by { Prim.hlevel (props, codes, term.the_row.coded) },
-    ghost nodes_sorted: { IsSortedBy (is_below (λ e. e.name.now)) nodes.items } by { Prim.hlevel props },
-    ghost nodes_named: { (name : List ℕ) → first_by (λ e. e.name.now) (λ e. e.item.now) name nodes.items ≡ node_named name (flat_map nodes_in (library.now ++ (frame.now ++ body.now))) } by { Prim.hlevel (props, codes, term.the_row.coded) },
+    site: Site<'a>,
+    ghost sees: { site ≡ names_seen (record { library = library.now; frame = frame.now; body = body.now; ports = ports.now }) } by { Prim.hlevel (props, codes, term.the_row.coded) },
 }
 
 impl<'a> Model for Scope<'a> {
@@ -45,26 +48,36 @@ impl<'a> Model for Scope<'a> {
 }
 
 impl<'a> Scope<'a> {
-    /// What is seen of these clauses and streams. Streams of subcomponents are named `c.x`.
+    /// The scope of these clauses and streams, or the first rule on names and types that the clauses
+    /// break. Streams of subcomponents are named `c.x`; a port without a stream isn't listed.
     pub fn make(
         alloc: Global,
         library: &'a [Clause],
         frame: &'a [Clause],
         body: &'a [Clause],
         ports: &'a [Var],
-    ) -> Result<Scope<'a>, OutOfMemory>
-        ensures { IfOk result (λ s. s ≡ record { library = library.now; frame = frame.now; body = body.now; ports = ports.now }) }
+    ) -> Result<Scope<'a>, Refused>
+        // It is seen as what it was made from.
+        ensures seen { IfOk result (λ s. s ≡ record { library = library.now; frame = frame.now; body = body.now; ports = ports.now }) }
+        // The clauses break no rule.
+        ensures sound { IfOk result (λ s. IsSound (record { library = library.now; frame = frame.now; body = body.now; ports = ports.now })) }
+        // They break this rule, and none that comes before it.
+        ensures refused { (r : Refusal) → result ≡ Err (Model r) → IsRefusal (record { library = library.now; frame = frame.now; body = body.now; ports = ports.now }) r }
     {
-        let values = sorted_values(alloc, library, frame, body, ports)?;
-        let nodes = sorted_nodes(alloc, library, frame, body)?;
-        Ok(Scope {
-            library,
-            frame,
-            body,
-            ports,
-            values,
-            nodes,
-        })
+        let checked = match check(alloc, library, frame, body, ports) {
+            Ok(checked) => checked,
+            Err(OutOfMemory) => return Err(Refused::OutOfMemory),
+        };
+        match checked.broken {
+            Some(refusal) => Err(Refused::Model(refusal)),
+            None => Ok(Scope {
+                library,
+                frame,
+                body,
+                ports,
+                site: checked.site,
+            }),
+        }
     }
 
     pub fn library(&self) -> &'a [Clause]
@@ -92,127 +105,57 @@ impl<'a> Scope<'a> {
     }
 
     /// The stream or constant that a name in an expression is.
-    pub fn value_of(&self, path: &Path) -> Option<&'a Var>
+    pub fn value_of(&self, path: &Path) -> Option<&Var>
         ensures { option_copied result ≡ value_of (names_seen self.now) path.now }
     {
-        if path.package.is_some() {
-            return None;
-        }
-        find(self.values.as_slice(), path)
+        self.sight().value_of(path)
     }
 
     /// The node that a call calls.
-    pub fn node_of(&self, path: &Path) -> Option<&'a NodeDef>
+    pub fn node_of(&self, path: &Path) -> Option<&NodeDef>
         ensures { option_copied result ≡ node_of (names_seen self.now) path.now }
     {
-        if path.package.is_some() {
-            return None;
-        }
-        find(self.nodes.as_slice(), path)
+        self.sight().node_of(path)
+    }
+
+    fn sight(&self) -> Sight<'_>
+        ensures { result ≡ names_seen self.now }
+    {
+        self.site.sight()
     }
 }
 
-// The streams and constants that are seen, in the order of their names.
-fn sorted_values<'a>(
+/// The type of an expression, or the first rule on types that it breaks. It takes no memory.
+pub fn type_of(scope: &Scope<'_>, term: &Term) -> Result<Ty, Refusal>
+    // It breaks no rule on types, and this is its type.
+    ensures ok { IfOk result (λ ty. IsTyped (names_seen scope.now) term.now ty) }
+    // The refusal is the first broken rule, at its place.
+    ensures refused { (r : Refusal) → result ≡ Err r → IsIllTyped (names_seen scope.now) term.now r }
+{
+    type_of_term(&scope.sight(), term)
+}
+
+// What an implementation's clauses see, and the first broken rule.
+#[derive(Drop)]
+struct Checked<'a> {
+    site: Site<'a>,
+    broken: Option<Refusal>,
+}
+
+fn check<'a>(
     alloc: Global,
     library: &'a [Clause],
     frame: &'a [Clause],
     body: &'a [Clause],
     ports: &'a [Var],
-) -> Result<Vec<Entry<'a, Var>>, OutOfMemory>
-    ensures sorted { IfOk result (λ v. IsSortedBy (is_below (λ e. e.name.now)) v.items) }
-    ensures named { IfOk result (λ v. (name : List ℕ) → first_by (λ e. e.name.now) (λ e. e.item.now) name v.items ≡ value_named name (ports.now ++ flat_map values_in (library.now ++ (frame.now ++ body.now)))) }
+) -> Result<Checked<'a>, OutOfMemory>
+    ensures site { IfOk result (λ c. c.site ≡ names_seen (record { library = library.now; frame = frame.now; body = body.now; ports = ports.now })) }
+    ensures broken { IfOk result (λ c. c.broken ≡ first_broken (faults_of (record { library = library.now; frame = frame.now; body = body.now; ports = ports.now }))) }
 {
-    let mut values = Vec::new(alloc);
-    push_values(&mut values, ports)?;
-    push_values_among(&mut values, library)?;
-    push_values_among(&mut values, frame)?;
-    push_values_among(&mut values, body)?;
-    sort(&mut values)?;
-    Ok(values)
-}
-
-fn push_values<'a>(entries: &mut Vec<Entry<'a, Var>>, values: &'a [Var]) -> Result<(), OutOfMemory>
-    ensures { OnOk result (pairs (λ e. e.name.now) (λ e. e.item.now) entries.new.items ≡ pairs (λ e. e.name.now) (λ e. e.item.now) entries.old.items ++ pairs (λ v. v.name.text) (λ v. v) values.now) }
-{
-    for item in values {
-        let name = item.name.text.as_bytes();
-        entries.push(Entry { name, item })?;
-    }
-    Ok(())
-}
-
-fn push_values_among<'a>(
-    entries: &mut Vec<Entry<'a, Var>>,
-    clauses: &'a [Clause],
-) -> Result<(), OutOfMemory>
-    ensures { OnOk result (pairs (λ e. e.name.now) (λ e. e.item.now) entries.new.items ≡ pairs (λ e. e.name.now) (λ e. e.item.now) entries.old.items ++ pairs (λ v. v.name.text) (λ v. v) (flat_map values_in clauses.now)) }
-{
-    for clause in clauses {
-        push_values_in(entries, clause)?;
-    }
-    Ok(())
-}
-
-fn push_values_in<'a>(
-    entries: &mut Vec<Entry<'a, Var>>,
-    clause: &'a Clause,
-) -> Result<(), OutOfMemory>
-    ensures { OnOk result (pairs (λ e. e.name.now) (λ e. e.item.now) entries.new.items ≡ pairs (λ e. e.name.now) (λ e. e.item.now) entries.old.items ++ pairs (λ v. v.name.text) (λ v. v) (values_in clause.now)) }
-{
-    match clause {
-        Clause::Eq { names, .. } => push_values(entries, names.as_slice()),
-        Clause::Const { name: item, .. } => {
-            let name = item.name.text.as_bytes();
-            entries.push(Entry { name, item })?;
-            Ok(())
-        }
-        _ => Ok(()),
-    }
-}
-
-// The nodes that are seen, in the order of their names.
-fn sorted_nodes<'a>(
-    alloc: Global,
-    library: &'a [Clause],
-    frame: &'a [Clause],
-    body: &'a [Clause],
-) -> Result<Vec<Entry<'a, NodeDef>>, OutOfMemory>
-    ensures sorted { IfOk result (λ v. IsSortedBy (is_below (λ e. e.name.now)) v.items) }
-    ensures named { IfOk result (λ v. (name : List ℕ) → first_by (λ e. e.name.now) (λ e. e.item.now) name v.items ≡ node_named name (flat_map nodes_in (library.now ++ (frame.now ++ body.now)))) }
-{
-    let mut nodes = Vec::new(alloc);
-    push_nodes_among(&mut nodes, library)?;
-    push_nodes_among(&mut nodes, frame)?;
-    push_nodes_among(&mut nodes, body)?;
-    sort(&mut nodes)?;
-    Ok(nodes)
-}
-
-fn push_nodes_among<'a>(
-    entries: &mut Vec<Entry<'a, NodeDef>>,
-    clauses: &'a [Clause],
-) -> Result<(), OutOfMemory>
-    ensures { OnOk result (pairs (λ e. e.name.now) (λ e. e.item.now) entries.new.items ≡ pairs (λ e. e.name.now) (λ e. e.item.now) entries.old.items ++ pairs (λ n. n.name.text) (λ n. n) (flat_map nodes_in clauses.now)) }
-{
-    for clause in clauses {
-        push_nodes_in(entries, clause)?;
-    }
-    Ok(())
-}
-
-fn push_nodes_in<'a>(
-    entries: &mut Vec<Entry<'a, NodeDef>>,
-    clause: &'a Clause,
-) -> Result<(), OutOfMemory>
-    ensures { OnOk result (pairs (λ e. e.name.now) (λ e. e.item.now) entries.new.items ≡ pairs (λ e. e.name.now) (λ e. e.item.now) entries.old.items ++ pairs (λ n. n.name.text) (λ n. n) (nodes_in clause.now)) }
-{
-    match clause {
-        Clause::Node(item) => {
-            let name = item.name.text.as_bytes();
-            entries.push(Entry { name, item })?;
-            Ok(())
-        }
-        _ => Ok(()),
-    }
+    let sites = Sites::make(alloc, library, frame, body, ports)?;
+    let broken = first_fault(alloc, &sites, library, frame, body, ports)?;
+    Ok(Checked {
+        site: sites.body,
+        broken,
+    })
 }

@@ -11,16 +11,16 @@ use std::test::Fail;
 const SEEN: &str =
     "{**eq x : int, y : int = pair(1); eq b : bool; const n : int = 3; const t : bool = true; node inc(i : int) returns (o : int); let o = i + 1; tel; node flag(i : bool, j : int) returns (o : bool); let o = i; tel; node pair(i : int) returns (o : int, p : int); let o = i; p = i; tel;**}";
 
-// The clauses of the annex that the bytes begin with.
-fn clauses_of(alloc: Global, bytes: &[u8]) -> Result<List<Clause>, Refused> {
+// The clauses of the annex that the bytes of a file begin with.
+fn clauses_of(alloc: Global, file: u32, site: Site, bytes: &[u8]) -> Result<List<Clause>, Refused> {
     if bytes.len() > 4_194_304 {
         return Err(Refused::OutOfMemory);
     }
-    let tokens = file_tokens(alloc, 0, bytes)?;
+    let tokens = file_tokens(alloc, file, bytes)?;
     match tokens.as_slice() {
         [annex, ..] if matches!(annex.kind, TokenKind::Annex) => {
             let inside = annex_tokens(alloc, bytes, annex)?;
-            read_clauses(alloc, bytes, inside.as_slice(), Site::Frame)
+            read_clauses(alloc, bytes, inside.as_slice(), site)
         }
         _ => Err(Refused::OutOfMemory),
     }
@@ -50,11 +50,11 @@ fn ports(alloc: Global) -> Result<List<Var>, OutOfMemory> {
 
 // What is answered for an expression that stands behind `assume "" : `, its first byte in column 16.
 fn answered(alloc: Global, expression: &str) -> Result<Result<Ty, Refusal>, Fail> {
-    let seen = clauses_of(alloc, SEEN.as_bytes())
+    let seen = clauses_of(alloc, 0, Site::Frame, SEEN.as_bytes())
         .ok()
         .ok_or("what is seen has clauses")?;
     let text = format!(in alloc; "{{**assume \"\" : {expression};**}}")?;
-    let clauses = clauses_of(alloc, text.as_bytes())
+    let clauses = clauses_of(alloc, 0, Site::Frame, text.as_bytes())
         .ok()
         .ok_or("the expression is read")?;
     let ports = ports(alloc).ok().ok_or("ports")?;
@@ -170,6 +170,256 @@ fn refuses_expressions(rt: HostRuntime) -> Result<(), Fail> {
     ];
     for row in &rows {
         expect_refusal(&rt, rt.alloc(), *row)?;
+    }
+    Ok(())
+}
+
+// The clauses that an annex states, in the file of that number.
+fn stated(alloc: Global, file: u32, site: Site, clauses: &str) -> Result<List<Clause>, Fail> {
+    let text = format!(in alloc; "{{**{clauses}**}}")?;
+    match clauses_of(alloc, file, site, text.as_bytes()) {
+        Ok(clauses) => Ok(clauses),
+        Err(_) => Err("the clauses are read".into()),
+    }
+}
+
+// What is answered for the clauses of a package, a type and an implementation, in the files 0, 1 and 2.
+fn fault_of(
+    alloc: Global,
+    library: &str,
+    frame: &str,
+    body: &str,
+) -> Result<Option<Refusal>, Fail> {
+    let library = stated(alloc, 0, Site::Library, library)?;
+    let frame = stated(alloc, 1, Site::Frame, frame)?;
+    let body = stated(alloc, 2, Site::Body, body)?;
+    let ports = ports(alloc).ok().ok_or("ports")?;
+    match Scope::make(
+        alloc,
+        library.as_slice(),
+        frame.as_slice(),
+        body.as_slice(),
+        ports.as_slice(),
+    ) {
+        Ok(_) => Ok(None),
+        Err(Refused::Model(refusal)) => Ok(Some(refusal)),
+        Err(Refused::OutOfMemory) => Err("memory".into()),
+    }
+}
+
+// The text without its `^`, and the column where that stood.
+fn marked(alloc: Global, text: &str) -> Result<(String, Option<u32>), Fail> {
+    match text.split_once("^") {
+        None => Ok((format!(in alloc; "{text}")?, None)),
+        Some((before, rest)) => {
+            let column = u32::try_from(before.len() + 4).ok().ok_or("a short row")?;
+            Ok((format!(in alloc; "{before}{rest}")?, Some(column)))
+        }
+    }
+}
+
+// Checks that the rule is broken where the row has its `^`, or none where it has none.
+fn expect_fault<R: Abort>(
+    rt: &R,
+    alloc: Global,
+    row: (&str, &str, &str, Rule),
+) -> Result<(), Fail> {
+    let (library, frame, body, rule) = row;
+    let (library, in_library) = marked(alloc, library)?;
+    let (frame, in_frame) = marked(alloc, frame)?;
+    let (body, in_body) = marked(alloc, body)?;
+    let answer = fault_of(alloc, library.as_str(), frame.as_str(), body.as_str())?;
+    let place = match (in_library, in_frame, in_body) {
+        (Some(column), None, None) => Some((0, column)),
+        (None, Some(column), None) => Some((1, column)),
+        (None, None, Some(column)) => Some((2, column)),
+        _ => None,
+    };
+    let wanted = match place {
+        None => None,
+        Some((file, column)) => Some(Refusal {
+            place: Place {
+                file,
+                line: 1,
+                column,
+            },
+            rule,
+        }),
+    };
+    assert_eq!(rt; answer, wanted, "{library} {frame} {body}");
+    Ok(())
+}
+
+#[test]
+fn refuses_clauses(rt: HostRuntime) -> Result<(), Fail> {
+    let rows = [
+        (
+            "const n : int = 3;",
+            "eq x : int = i + n; guarantee \"\" : x > n;",
+            "lemma \"\" : c.q; assign i = 1;",
+            Rule::Twice,
+        ),
+        // Names are declared once, whatever they name and wherever they are seen together.
+        (
+            "const n : int = 3; const ^N : int = 4;",
+            "",
+            "",
+            Rule::Twice,
+        ),
+        ("const n : int = 3;", "eq ^n : bool;", "", Rule::Twice),
+        (
+            "",
+            "eq x : int;",
+            "node ^x(a : int) returns (r : int); let r = a; tel;",
+            Rule::Twice,
+        ),
+        ("", "eq ^i : int;", "", Rule::Twice),
+        ("", "eq ^I : int, x : int;", "", Rule::Twice),
+        (
+            "",
+            "node f(a : int) returns (^A : int); let a = 1; tel;",
+            "",
+            Rule::Twice,
+        ),
+        (
+            "const n : int = 3; node f(^n : int) returns (r : int); let r = 1; tel;",
+            "",
+            "",
+            Rule::Twice,
+        ),
+        (
+            "node f(n : int) returns (r : int); let r = n; tel; const ^n : int = 3;",
+            "",
+            "",
+            Rule::Twice,
+        ),
+        (
+            "node f(^f : int) returns (r : int); let r = 1; tel;",
+            "",
+            "",
+            Rule::Twice,
+        ),
+        (
+            "node f(i : int, x : int) returns (r : int); let r = i; tel;",
+            "eq x : int;",
+            "",
+            Rule::Twice,
+        ),
+        (
+            "node f(a : int) returns (r : int); let r = a; ^R = a; tel;",
+            "",
+            "",
+            Rule::Twice,
+        ),
+        // One source.
+        ("", "eq x : int = 1;", "assign ^x = 1;", Rule::TwoSources),
+        ("", "", "assign i = 1; assign ^I = 2;", Rule::TwoSources),
+        ("", "eq x : int;", "assign x = 1;", Rule::TwoSources),
+        ("", "eq x : int, ^x : int;", "", Rule::Twice),
+        // Names are in scope.
+        (
+            "const n : int = ^m;",
+            "const m : int = 1;",
+            "",
+            Rule::Unknown,
+        ),
+        ("", "guarantee \"\" : ^c.q;", "", Rule::Unknown),
+        ("", "guarantee \"\" : ^x > 0;", "eq x : int;", Rule::Unknown),
+        ("", "", "assign ^y = 1;", Rule::Unknown),
+        ("", "", "assign ^n = 1; const n : int = 1;", Rule::Unknown),
+        (
+            "node f(a : int) returns (r : int); let r = ^i; tel;",
+            "",
+            "",
+            Rule::Unknown,
+        ),
+        (
+            "",
+            "eq x : int; node f(a : int) returns (r : int); let r = ^x; tel;",
+            "",
+            Rule::Unknown,
+        ),
+        (
+            "node f(a : int) returns (^r : int); let tel;",
+            "",
+            "",
+            Rule::Unknown,
+        ),
+        (
+            "node f(a : int) returns (r : int); var ^v : int; let r = a; tel;",
+            "",
+            "",
+            Rule::Unknown,
+        ),
+        (
+            "node f(a : int) returns (r : int); let ^a = 1; r = a; tel;",
+            "",
+            "",
+            Rule::Unknown,
+        ),
+        // Types.
+        ("", "", "lemma \"\" : ^1;", Rule::Mismatch),
+        ("", "guarantee \"\" : ^i + 1;", "", Rule::Mismatch),
+        ("", "eq x : int = ^true;", "", Rule::Mismatch),
+        ("", "eq x : bool;", "assign x = ^1;", Rule::Mismatch),
+        ("const n : int = ^true;", "", "", Rule::Mismatch),
+        (
+            "node f(a : int) returns (r : int); let r = ^a > 1; tel;",
+            "",
+            "",
+            Rule::Mismatch,
+        ),
+        ("", "const k : int = ^i;", "", Rule::Mismatch),
+        ("const k : int = ^pre(3);", "", "", Rule::Mismatch),
+        ("const k : int = ^3 -> 4;", "", "", Rule::Mismatch),
+        // Several names.
+        ("", "eq x : int, y : int = ^1;", "", Rule::Arity),
+        (
+            "node f(a : int) returns (r : int, s : int); let r = a; s = a; tel;",
+            "eq x : int, y : int = f(1);",
+            "",
+            Rule::Arity,
+        ),
+        (
+            "node f(a : int) returns (r : int, s : int); let r = a; s = a; tel;",
+            "eq x : int, y : bool = ^f(1);",
+            "",
+            Rule::Mismatch,
+        ),
+        (
+            "node f(a : int) returns (r : int, s : int); let r = a; s = a; tel;",
+            "eq x : int, y : int, z : int = ^f(1);",
+            "",
+            Rule::Arity,
+        ),
+        (
+            "node f(a : int) returns (r : int, s : int); let r = a; s = a; tel;",
+            "eq x : int = ^f(1);",
+            "",
+            Rule::Arity,
+        ),
+        (
+            "node f(a : int) returns (r : int); let r = a; tel;",
+            "eq x : int = ^f(1, 2);",
+            "",
+            Rule::Arity,
+        ),
+        // Of several the first in the text, and at one place the first in the order of the rules.
+        (
+            "const n : int = ^true;",
+            "guarantee \"\" : 1;",
+            "",
+            Rule::Mismatch,
+        ),
+        (
+            "",
+            "eq e : int = 0;",
+            "assign ^e = 1; eq e : int;",
+            Rule::TwoSources,
+        ),
+    ];
+    for row in rows {
+        expect_fault(&rt, rt.alloc(), row)?;
     }
     Ok(())
 }

@@ -7,38 +7,39 @@ ghost use Rattle.ag_annex.specs.declared.clauses.Ty.TheVariants.{Bool as Boolean
 ghost use Rattle.ag_base.specs.declared.place.Refusal.{Refusal};
 ghost use Rattle.ag_types.specs.Firsts.{either, type_of_unary, needed_alone, first_mismatch, mismatches_in, faults_among, inputs_of, first_of_call};
 ghost use Rattle.ag_types.specs.Places.{first_place, first_broken, path_place, earlier};
-ghost use Rattle.ag_types.specs.Seen.{Names, names_seen, value_of};
+ghost use Rattle.ag_types.specs.Seen.{Names, value_of};
 ghost use Rattle.ag_types.specs.Types.{type_in, type_of_var, type_of_call, type_of_outputs, type_of_binary, same_type, needed_first, needed_second, mismatch, arity, unknown, faults_in, value_faults, IsTyped, IsIllTyped};
 
 use crate::places::{earlier, either, path_place};
-use crate::scope::Scope;
+use crate::sight::Sight;
 use ag_aadl::packages::Path;
 use ag_annex::{Binary, NodeDef, Term, Ty, Unary, Var};
 use ag_base::{Place, Refusal, Rule};
 
-// What is known of a term: its type, if it has one, the first rule on types that it breaks, and the place of its first token.
+/// What is known of a term: its type, if it has one, the first rule on types that it breaks, and the place
+/// of its first token.
 #[derive(Clone, Copy)]
-struct Typed {
-    ty: Option<Ty>,
-    broken: Option<Refusal>,
-    first: Place,
+pub struct Typed {
+    pub ty: Option<Ty>,
+    pub broken: Option<Refusal>,
+    pub first: Place,
 }
 
-// The first rules that the arguments of a call break: beside the inputs, and within themselves.
+/// The first rules that the arguments of a call break: beside the inputs, and within themselves.
 #[derive(Clone, Copy)]
-struct ArgumentFaults {
-    mismatched: Option<Refusal>,
-    broken: Option<Refusal>,
+pub struct ArgumentFaults {
+    pub mismatched: Option<Refusal>,
+    pub broken: Option<Refusal>,
 }
 
 /// The type of an expression, or the first rule on types that it breaks. It takes no memory.
-pub fn type_of(scope: &Scope<'_>, term: &Term) -> Result<Ty, Refusal>
+pub fn type_of_term(sight: &Sight<'_>, term: &Term) -> Result<Ty, Refusal>
     // It breaks no rule on types, and this is its type.
-    ensures ok { IfOk result (λ ty. IsTyped (names_seen scope.now) term.now ty) }
+    ensures ok { IfOk result (λ ty. IsTyped sight.now term.now ty) }
     // The refusal is the first broken rule, at its place.
-    ensures refused { (r : Refusal) → result ≡ Err r → IsIllTyped (names_seen scope.now) term.now r }
+    ensures refused { (r : Refusal) → result ≡ Err r → IsIllTyped sight.now term.now r }
 {
-    let typing = typing(scope, term);
+    let typing = typing(sight, term);
     match (typing.broken, typing.ty) {
         (Some(refusal), _) => Err(refusal),
         (None, Some(ty)) => Ok(ty),
@@ -46,25 +47,26 @@ pub fn type_of(scope: &Scope<'_>, term: &Term) -> Result<Ty, Refusal>
     }
 }
 
+/// What is known of a term, by its operands.
 #[cycle(typing)]
-fn typing(scope: &Scope<'_>, term: &Term) -> Typed
-    ensures ty { result.ty ≡ type_in (names_seen scope.now) term.now }
-    ensures broken { result.broken ≡ first_broken (faults_in (names_seen scope.now) term.now) }
+pub fn typing(sight: &Sight<'_>, term: &Term) -> Typed
+    ensures ty { result.ty ≡ type_in sight.now term.now }
+    ensures broken { result.broken ≡ first_broken (faults_in sight.now term.now) }
     ensures first { result.first ≡ first_place term.now }
 {
     match term {
         Term::Number { place, .. } => sound(Ty::Int, *place),
         Term::Truth { place, .. } => sound(Ty::Bool, *place),
-        Term::Named { path } => named(scope, path),
-        Term::Unary { op, place, arg } => unary(*op, *place, typing(scope, arg.get())),
+        Term::Named { path } => named(sight, path),
+        Term::Unary { op, place, arg } => unary(*op, *place, typing(sight, arg.get())),
         Term::Binary {
             op,
             place,
             left,
             right,
         } => {
-            let left = typing(scope, left.get());
-            let right = typing(scope, right.get());
+            let left = typing(sight, left.get());
+            let right = typing(sight, right.get());
             binary(*op, *place, left, right)
         }
         Term::Choice {
@@ -73,30 +75,30 @@ fn typing(scope: &Scope<'_>, term: &Term) -> Typed
             yes,
             no,
         } => {
-            let test = typing(scope, test.get());
-            let yes = typing(scope, yes.get());
-            let no = typing(scope, no.get());
+            let test = typing(sight, test.get());
+            let yes = typing(sight, yes.get());
+            let no = typing(sight, no.get());
             choice(*place, test, yes, no)
         }
         Term::Call { path, args } => {
-            let node = scope.node_of(path);
-            let arguments = arguments(scope, inputs_of(node), args.as_slice());
+            let node = sight.node_of(path);
+            let arguments = arguments(sight, inputs_of(node), args.as_slice());
             call(path, node, args.as_slice().len(), arguments)
         }
     }
 }
 
-// The arguments of a call, beside the inputs of its node.
+/// The arguments of a call, beside the inputs of its node.
 #[cycle(typing)]
-fn arguments(scope: &Scope<'_>, inputs: &[Var], args: &[Term]) -> ArgumentFaults
-    ensures mismatched { result.mismatched ≡ first_broken (mismatches_in (names_seen scope.now) inputs.now args.now) }
-    ensures broken { result.broken ≡ first_broken (faults_among (names_seen scope.now) args.now) }
+pub fn arguments(sight: &Sight<'_>, inputs: &[Var], args: &[Term]) -> ArgumentFaults
+    ensures mismatched { result.mismatched ≡ first_broken (mismatches_in sight.now inputs.now args.now) }
+    ensures broken { result.broken ≡ first_broken (faults_among sight.now args.now) }
 {
     let mut mismatched = None;
     let mut broken = None;
     let mut left = inputs;
     for arg in args {
-        let typing = typing(scope, arg);
+        let typing = typing(sight, arg);
         mismatched = either(mismatched, first_mismatch(left, typing.ty, typing.first));
         broken = either(broken, typing.broken);
         left = behind_first(left);
@@ -115,13 +117,13 @@ fn sound(ty: Ty, first: Place) -> Typed
     }
 }
 
-fn named(scope: &Scope<'_>, path: &Path) -> Typed
-    ensures ty { result.ty ≡ type_of_var (value_of (names_seen scope.now) path.now) }
-    ensures broken { result.broken ≡ first_broken (value_faults (value_of (names_seen scope.now) path.now) path.now) }
+fn named(sight: &Sight<'_>, path: &Path) -> Typed
+    ensures ty { result.ty ≡ type_of_var (value_of sight.now path.now) }
+    ensures broken { result.broken ≡ first_broken (value_faults (value_of sight.now path.now) path.now) }
     ensures first { result.first ≡ path_place path.now }
 {
     let first = path_place(path);
-    match scope.value_of(path) {
+    match sight.value_of(path) {
         Some(value) => sound(value.ty, first),
         None => Typed {
             ty: None,
@@ -143,7 +145,7 @@ fn unary(op: Unary, place: Place, arg: Typed) -> Typed
     }
 }
 
-fn type_of_unary(op: Unary, arg: Option<Ty>) -> Option<Ty>
+pub fn type_of_unary(op: Unary, arg: Option<Ty>) -> Option<Ty>
     ensures { result ≡ type_of_unary op arg }
 {
     match op {
@@ -177,7 +179,7 @@ fn binary(op: Binary, place: Place, left: Typed, right: Typed) -> Typed
     }
 }
 
-fn type_of_binary(op: Binary, first: Option<Ty>) -> Option<Ty>
+pub fn type_of_binary(op: Binary, first: Option<Ty>) -> Option<Ty>
     ensures { result ≡ type_of_binary op first }
 {
     match op {
@@ -235,7 +237,8 @@ fn call(path: &Path, node: Option<&NodeDef>, given: usize, arguments: ArgumentFa
     }
 }
 
-fn inputs_of(node: Option<&NodeDef>) -> &[Var]
+/// The inputs of a node, if it is there.
+pub fn inputs_of(node: Option<&NodeDef>) -> &[Var]
     ensures { result.now ≡ inputs_of (option_copied node.entry) }
 {
     match node {
@@ -284,7 +287,8 @@ fn first_mismatch(inputs: &[Var], ty: Option<Ty>, place: Place) -> Option<Refusa
     }
 }
 
-fn behind_first(vars: &[Var]) -> &[Var]
+/// All but the first.
+pub fn behind_first(vars: &[Var]) -> &[Var]
     ensures { result.now ≡ drop 1 vars.now }
 {
     match vars {
@@ -293,7 +297,8 @@ fn behind_first(vars: &[Var]) -> &[Var]
     }
 }
 
-fn mismatch(needed: Option<Ty>, found: Option<Ty>, place: Place) -> Option<Refusal>
+/// The rule that an operand of another type than is needed breaks at a place.
+pub fn mismatch(needed: Option<Ty>, found: Option<Ty>, place: Place) -> Option<Refusal>
     ensures { result ≡ first_broken (mismatch needed found place) }
 {
     match (needed, found) {
@@ -320,7 +325,8 @@ fn same_type(a: Ty, b: Ty) -> bool
     }
 }
 
-fn arity(needed: usize, found: usize, place: Place) -> Option<Refusal>
+/// The rule that another number than is needed breaks at a place.
+pub fn arity(needed: usize, found: usize, place: Place) -> Option<Refusal>
     ensures { result ≡ first_broken (arity needed found place) }
 {
     if needed == found {
@@ -333,7 +339,8 @@ fn arity(needed: usize, found: usize, place: Place) -> Option<Refusal>
     }
 }
 
-fn unknown(place: Place) -> Option<Refusal>
+/// The rule that a name breaks at its place which names nothing.
+pub fn unknown(place: Place) -> Option<Refusal>
     ensures { result ≡ first_broken (unknown place) }
 {
     Some(Refusal {

@@ -1,0 +1,6 @@
+use Rattle.std.proofs.Common.{◌≡◌, ◌++◌, drop}
+use Rattle.std.specs.Prelude.{map}
+use Rattle.ag_types.proofs.names.push_equations.Given as goal
+
+abbrev pub invariant-loop-item : goal.invariant-loop-item
+invariant-loop-item l = map (λ n. n.now) l.names.items ++ map (λ e. e.name) (drop l.item-index l.equations) ≡ map (λ n. n.now) l.fn.names.items ++ map (λ e. e.name) l.equations
