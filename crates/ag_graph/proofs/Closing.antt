@@ -1,8 +1,8 @@
 -- The last group is finished.
-use Rattle.std.proofs.Common.{◌≡◌, ℕ, ◌+◌, ◌-◌, ◌*◌, ◌^◌, ◌<◌, ◌≤◌, ◌⊎◌, ◌↔◌, Bool, true, false, cond, List, [], ◌∷◌, ◌++◌, length, get_or, set, take, drop, sym, ap, subst, ◌∙◌, refl, inl, inr, arith}
-use Rattle.std.specs.List.{All, Any, AllPairs, Contains, count_by}
+use Rattle.std.proofs.Common.{◌≡◌, ℕ, ◌+◌, ◌-◌, ◌<◌, ◌≤◌, ◌⊎◌, ◌↔◌, Bool, false, cond, List, [], ◌∷◌, ◌++◌, length, get_or, take, drop, sym, ap, subst, ◌∙◌, refl, inl, inr, arith}
+use Rattle.std.specs.List.{All, Any, AllPairs, Contains}
 use Rattle.std.specs.Prelude.{slice_index, IsTrue}
-use Rattle.std.proofs.lemmas.Bool.{cases_lt, cases_Bool, false≢true}
+use Rattle.std.proofs.lemmas.Bool.{cases_lt, cases_Bool}
 use Rattle.std.proofs.lemmas.List.{get_or_append_left, get_or-append_right, get_or-take, get_or-drop, get_or_default, length-append, length-drop, length-take-le, length_push}
 use Rattle.std.proofs.lemmas.List.Elements.{All-push, All-append, All-drop, All-from_get_or, Contains-append_left, Contains-append_right}
 use Rattle.ag_graph.specs.declared.search.Mark.{Mark}
@@ -10,7 +10,7 @@ use Rattle.ag_graph.specs.declared.search.Mark.TheVariants.{Unseen, OnPath, Fini
 use Rattle.ag_graph.specs.declared.search.Group.{Group}
 use Rattle.ag_graph.specs.declared.search.Search.{Search}
 use Rattle.ag_graph.specs.Circles.{Leads, Reaches, IsOnCircle, at_once, through}
-use Rattle.ag_graph.specs.Search.{mark_of, is_unseen, stands_within, Comes, NoLater, IsPath, AreGroups, AreJoined, AreAhead, IsGoneOrAhead, AreFinished, IsSearch, GoesOn, AreClosed}
+use Rattle.ag_graph.specs.Search.{mark_of, is_unseen, stands_within, NoLater, IsPath, AreGroups, AreJoined, AreAhead, IsGoneOrAhead, AreFinished, IsSearch, GoesOn, AreClosed}
 use Rattle.ag_graph.proofs.Paths.{All-front, All-last, AllPairs-front, AllPairs-last, Any-not_back, reaches_comes}
 use Rattle.ag_graph.proofs.Finishing.{within_true, within_before, seen_within}
 
@@ -158,198 +158,194 @@ module _ (graph : List (List ℕ)) (old : Search) (s : IsSearch graph old) (befo
     ],
   )
 
--- ---- the search without the last group
+  -- ---- the search without the last group
 
-module _ (graph : List (List ℕ)) (old : Search) (s : IsSearch graph old) (before : List Group) (g : Group) (last : old.groups.items ≡ before ++ g ∷ []) (done : length old.ahead.items ≤ g.edges) (on_circle : Bool) (says : IsTrue on_circle ↔ ((g.first + 1 < length old.path.items) ⊎ Leads graph (slice_index old.path.items g.first) (slice_index old.path.items g.first))) (marks : List Mark) (flags : List Bool) (marked : (v : ℕ) → mark_of marks v ≡ after g.first (length old.path.items) (mark_of old.marks.items v)) (flagged : (v : ℕ) → get_or flags v false ≡ cond (stands_within g.first (length old.path.items) (mark_of old.marks.items v)) on_circle (get_or old.on_circle.items v false)) where
-  marked_by : (v : ℕ) (m : Mark) → mark_of old.marks.items v ≡ m → mark_of marks v ≡ after g.first (length old.path.items) m
-  marked_by v m is = marked v ∙ ap (after g.first (length old.path.items)) is
+  module _ (on_circle : Bool) (says : IsTrue on_circle ↔ ((g.first + 1 < length old.path.items) ⊎ Leads graph (slice_index old.path.items g.first) (slice_index old.path.items g.first))) (mid : Search) (c : AreClosed g.first (length old.path.items) on_circle old mid) where
+    marked_by : (v : ℕ) (m : Mark) → mark_of old.marks.items v ≡ m → mark_of mid.marks.items v ≡ after g.first (length old.path.items) m
+    marked_by v m is = c.marks v ∙ ap (after g.first (length old.path.items)) is
 
-  finished_now : (v : ℕ) → mark_of marks v ≡ Finished → (mark_of old.marks.items v ≡ Finished) ⊎ ((i : ℕ) × (mark_of old.marks.items v ≡ OnPath i) × (g.first ≤ i))
-  finished_now v h = finished_after g.first (length old.path.items) (mark_of old.marks.items v) (sym (marked v) ∙ h)
+    finished_now : (v : ℕ) → mark_of mid.marks.items v ≡ Finished → (mark_of old.marks.items v ≡ Finished) ⊎ ((i : ℕ) × (mark_of old.marks.items v ≡ OnPath i) × (g.first ≤ i))
+    finished_now v h = finished_after g.first (length old.path.items) (mark_of old.marks.items v) (sym (c.marks v) ∙ h)
 
-  -- a vertex of the group is finished
-  of_group : (w i : ℕ) → mark_of old.marks.items w ≡ OnPath i → g.first ≤ i → mark_of marks w ≡ Finished
-  of_group w i is from = marked_by w (OnPath i) is ∙ after_within g.first (length old.path.items) i from (s.path.placed w i is).0
+    -- a vertex of the group is finished
+    of_group : (w i : ℕ) → mark_of old.marks.items w ≡ OnPath i → g.first ≤ i → mark_of mid.marks.items w ≡ Finished
+    of_group w i is from = marked_by w (OnPath i) is ∙ after_within g.first (length old.path.items) i from (s.path.placed w i is).0
 
-  path_closed : IsPath marks (take g.first old.path.items)
-  path_closed =
-      let short = length-take-le g.first old.path.items (omega (arith, (g_within graph old s before g last done).0)) in record {
-        marked = λ i h.
-            let less : i < g.first = omega arith in
-            rw (get_or-take g.first old.path.items i 0 less) (marked_by (get_or old.path.items i 0) (OnPath i) (s.path.marked i (omega (arith, (g_within graph old s before g last done).0))) ∙ after_before g.first (length old.path.items) i less);
-        placed = λ v i h.
-            let was = on_path_after g.first (length old.path.items) (mark_of old.marks.items v) i (λ j is. (s.path.placed v j is).0) (sym (marked v) ∙ h) in
-            (omega (arith, was.1), get_or-take g.first old.path.items i 0 was.1 ∙ (s.path.placed v i was.0).1);
-      }
+    path_closed : IsPath mid.marks.items (take g.first old.path.items)
+    path_closed =
+        let short = length-take-le g.first old.path.items (omega (arith, g_within.0)) in record {
+          marked = λ i h.
+              let less : i < g.first = omega arith in
+              rw (get_or-take g.first old.path.items i 0 less) (marked_by (get_or old.path.items i 0) (OnPath i) (s.path.marked i (omega (arith, g_within.0))) ∙ after_before g.first (length old.path.items) i less);
+          placed = λ v i h.
+              let was = on_path_after g.first (length old.path.items) (mark_of old.marks.items v) i (λ j is. (s.path.placed v j is).0) (sym (c.marks v) ∙ h) in
+              (omega (arith, was.1), get_or-take g.first old.path.items i 0 was.1 ∙ (s.path.placed v i was.0).1);
+        }
 
-  groups_closed : AreGroups (take g.first old.path.items) before old.ahead.items
-  groups_closed =
-      let short = length-take-le g.first old.path.items (omega (arith, (g_within graph old s before g last done).0)) in record {
-        sorted = AllPairs-front (λ (h i : Group). (h.first < i.first) × (h.edges ≤ i.edges)) before (g ∷ []) (subst (λ (gs : List Group). AllPairs (λ (h i : Group). (h.first < i.first) × (h.edges ≤ i.edges)) gs) last s.groups.sorted);
-        within = λ k d h. (omega (arith, (firsts graph old s before g last done k d h).0), omega (arith, (firsts graph old s before g last done k d h).1, (g_within graph old s before g last done).1));
-        begins = λ some.
-            Any-not_back (λ (h : Group). h.first ≡ 0) before (g ∷ []) (All-push (λ (h : Group). h.first ≡ 0 → ⊥) [] g (λ k d h. absurd (omega arith)) (λ zero. omega arith))
-            (subst (λ (gs : List Group). Any (λ (h : Group). h.first ≡ 0) gs) last (s.groups.begins (omega (arith, (g_within graph old s before g last done).0))));
-      }
+    groups_closed : AreGroups (take g.first old.path.items) before old.ahead.items
+    groups_closed =
+        let short = length-take-le g.first old.path.items (omega (arith, g_within.0)) in record {
+          sorted = AllPairs-front (λ (h i : Group). (h.first < i.first) × (h.edges ≤ i.edges)) before (g ∷ []) (subst (λ (gs : List Group). AllPairs (λ (h i : Group). (h.first < i.first) × (h.edges ≤ i.edges)) gs) last s.groups.sorted);
+          within = λ k d h. (omega (arith, (firsts k d h).0), omega (arith, (firsts k d h).1, g_within.1));
+          begins = λ some.
+              Any-not_back (λ (h : Group). h.first ≡ 0) before (g ∷ []) (All-push (λ (h : Group). h.first ≡ 0 → ⊥) [] g (λ k d h. absurd (omega arith)) (λ zero. omega arith))
+              (subst (λ (gs : List Group). Any (λ (h : Group). h.first ≡ 0) gs) last (s.groups.begins (omega (arith, g_within.0))));
+        }
 
-  no_later : (i j : ℕ) → i < g.first → NoLater before i j → NoLater old.groups.items i j
-  no_later i j less later = subst (λ (gs : List Group). All (λ h. h.first ≤ i → h.first ≤ j) gs) (sym last) (All-push (λ (h : Group). h.first ≤ i → h.first ≤ j) before g later (λ le. absurd (omega arith)))
+    no_later : (i j : ℕ) → i < g.first → NoLater before i j → NoLater old.groups.items i j
+    no_later i j less later = subst (λ (gs : List Group). All (λ h. h.first ≤ i → h.first ≤ j) gs) (sym last) (All-push (λ (h : Group). h.first ≤ i → h.first ≤ j) before g later (λ le. absurd (omega arith)))
 
-  joined_closed : AreJoined graph (take g.first old.path.items) before
-  joined_closed = λ i j hi hj later.
-      let within = (g_within graph old s before g last done).0 in
-      let short = length-take-le g.first old.path.items (omega arith) in
-      let less_i : i < g.first = omega arith in
-      let less_j : j < g.first = omega arith in
-      rw (get_or-take g.first old.path.items i 0 less_i, get_or-take g.first old.path.items j 0 less_j) (s.joined i j (omega arith) (omega arith) (no_later i j less_i later))
+    joined_closed : AreJoined graph (take g.first old.path.items) before
+    joined_closed = λ i j hi hj later.
+        let within = g_within.0 in
+        let short = length-take-le g.first old.path.items (omega arith) in
+        let less_i : i < g.first = omega arith in
+        let less_j : j < g.first = omega arith in
+        rw (get_or-take g.first old.path.items i 0 less_i, get_or-take g.first old.path.items j 0 less_j) (s.joined i j (omega arith) (omega arith) (no_later i j less_i later))
 
-  ahead_closed : AreAhead graph (take g.first old.path.items) before old.ahead.items
-  ahead_closed = λ k h.
-      let from = s.ahead k h in
-      let i = from.0 in
-      let P : Group → Type 0 = λ f. (f.edges ≤ k → f.first ≤ i) × (f.first ≤ i → f.edges ≤ k) in
-      let within = (g_within graph old s before g last done).0 in
-      let short = length-take-le g.first old.path.items (omega arith) in
-      let less : i < g.first =
-      elim (cases_lt i g.first) [
-        | inl front ↦ front
-        | inr behind ↦ let le : g.edges ≤ k = (All-last P before g (all_groups graph old s before g last done P from.3)).1 behind in absurd (omega arith)
-      ] in
-      (i, omega arith, rw (get_or-take g.first old.path.items i 0 less) from.2, All-front P before (g ∷ []) (all_groups graph old s before g last done P from.3))
+    ahead_closed : AreAhead graph (take g.first old.path.items) before old.ahead.items
+    ahead_closed = λ k h.
+        let from = s.ahead k h in
+        let i = from.0 in
+        let P : Group → Type 0 = λ f. (f.edges ≤ k → f.first ≤ i) × (f.first ≤ i → f.edges ≤ k) in
+        let within = g_within.0 in
+        let short = length-take-le g.first old.path.items (omega arith) in
+        let less : i < g.first =
+        elim (cases_lt i g.first) [
+          | inl front ↦ front
+          | inr behind ↦ let le : g.edges ≤ k = (All-last P before g (all_groups P from.3)).1 behind in absurd (omega arith)
+        ] in
+        (i, omega arith, rw (get_or-take g.first old.path.items i 0 less) from.2, All-front P before (g ∷ []) (all_groups P from.3))
 
-  gone_closed : (i w : ℕ) → i < g.first → IsGoneOrAhead old.marks.items old.groups.items old.ahead.items i w → IsGoneOrAhead marks before old.ahead.items i w
-  gone_closed i w less gone = elim gone [
-    | inl finished ↦ inl (marked_by w Finished finished)
-    | inr rest ↦ elim rest [
-      | inl on_path ↦
-          let j = on_path.0 in
-          let P : Group → Type 0 = λ f. f.first ≤ i → f.first ≤ j in
-          elim (cases_lt j g.first) [
-            | inl front ↦ inr (inl (j, marked_by w (OnPath j) on_path.1 ∙ after_before g.first (length old.path.items) j front, All-front P before (g ∷ []) (all_groups graph old s before g last done P on_path.2)))
-            | inr behind ↦ inl (of_group w j on_path.1 behind)
-          ]
-      | inr later ↦
-          let k = later.0 in
-          let P : Group → Type 0 = λ f. f.first ≤ i → f.edges ≤ k in
-          inr (inr (k, later.1, later.2, All-front P before (g ∷ []) (all_groups graph old s before g last done P later.3)))
+    gone_closed : (i w : ℕ) → i < g.first → IsGoneOrAhead old.marks.items old.groups.items old.ahead.items i w → IsGoneOrAhead mid.marks.items before old.ahead.items i w
+    gone_closed i w less gone = elim gone [
+      | inl finished ↦ inl (marked_by w Finished finished)
+      | inr rest ↦ elim rest [
+        | inl on_path ↦
+            let j = on_path.0 in
+            let P : Group → Type 0 = λ f. f.first ≤ i → f.first ≤ j in
+            elim (cases_lt j g.first) [
+              | inl front ↦ inr (inl (j, marked_by w (OnPath j) on_path.1 ∙ after_before g.first (length old.path.items) j front, All-front P before (g ∷ []) (all_groups P on_path.2)))
+              | inr behind ↦ inl (of_group w j on_path.1 behind)
+            ]
+        | inr later ↦
+            let k = later.0 in
+            let P : Group → Type 0 = λ f. f.first ≤ i → f.edges ≤ k in
+            inr (inr (k, later.1, later.2, All-front P before (g ∷ []) (all_groups P later.3)))
+      ]
     ]
-  ]
 
-  -- the path's vertices are those of the graph
-  path_within : All (λ v. v < length graph) old.path.items
-  path_within = All-from_get_or (λ v. v < length graph) old.path.items 0
-      (λ i h. let there = seen_within old.marks.items (get_or old.path.items i 0) (ap is_unseen (s.path.marked i h)) in omega (arith, s.marks_long))
+    -- the path's vertices are those of the graph
+    path_within : All (λ v. v < length graph) old.path.items
+    path_within = All-from_get_or (λ v. v < length graph) old.path.items 0
+        (λ i h. let there = seen_within old.marks.items (get_or old.path.items i 0) (ap is_unseen (s.path.marked i h)) in omega (arith, s.marks_long))
 
-  -- the answer for a vertex that was finished before stands
-  flag_stays : (v : ℕ) → mark_of old.marks.items v ≡ Finished → get_or flags v false ≡ get_or old.on_circle.items v false
-  flag_stays v finished = flagged v ∙ ap (λ (m : Mark). cond (stands_within g.first (length old.path.items) m) on_circle (get_or old.on_circle.items v false)) finished
+    -- the answer for a vertex that was finished before stands
+    flag_stays : (v : ℕ) → mark_of old.marks.items v ≡ Finished → get_or mid.on_circle.items v false ≡ get_or old.on_circle.items v false
+    flag_stays v finished = c.flags v ∙ ap (λ (m : Mark). cond (stands_within g.first (length old.path.items) m) on_circle (get_or old.on_circle.items v false)) finished
 
-  flag_given : (v i : ℕ) → mark_of old.marks.items v ≡ OnPath i → g.first ≤ i → get_or flags v false ≡ on_circle
-  flag_given v i is from =
-      let there = (s.path.placed v i is).0 in
-      flagged v ∙ ap (λ (m : Mark). cond (stands_within g.first (length old.path.items) m) on_circle (get_or old.on_circle.items v false)) is
-      ∙ ap (λ (b : Bool). cond b on_circle (get_or old.on_circle.items v false)) (within_true g.first (length old.path.items) i from there)
+    flag_given : (v i : ℕ) → mark_of old.marks.items v ≡ OnPath i → g.first ≤ i → get_or mid.on_circle.items v false ≡ on_circle
+    flag_given v i is from =
+        let there = (s.path.placed v i is).0 in
+        c.flags v ∙ ap (λ (m : Mark). cond (stands_within g.first (length old.path.items) m) on_circle (get_or old.on_circle.items v false)) is
+        ∙ ap (λ (b : Bool). cond b on_circle (get_or old.on_circle.items v false)) (within_true g.first (length old.path.items) i from there)
 
-  circles_closed : (v : ℕ) → mark_of marks v ≡ Finished → (IsTrue (get_or flags v false) ↔ IsOnCircle graph v)
-  circles_closed v now =
-      elim (finished_now v now) [
-        | inl finished ↦ rw (flag_stays v finished) (s.finished.circles v finished)
-        | inr on_path ↦
-            let i = on_path.0 in
-            let there = s.path.placed v i on_path.1 in
-            rw (flag_given v i on_path.1 on_path.2) (subst (λ (u : ℕ). IsTrue on_circle ↔ IsOnCircle graph u) there.1 (answered graph old s before g last done on_circle says i on_path.2 there.0))
-      ]
+    circles_closed : (v : ℕ) → mark_of mid.marks.items v ≡ Finished → (IsTrue (get_or mid.on_circle.items v false) ↔ IsOnCircle graph v)
+    circles_closed v now =
+        elim (finished_now v now) [
+          | inl finished ↦ rw (flag_stays v finished) (s.finished.circles v finished)
+          | inr on_path ↦
+              let i = on_path.0 in
+              let there = s.path.placed v i on_path.1 in
+              rw (flag_given v i on_path.1 on_path.2) (subst (λ (u : ℕ). IsTrue on_circle ↔ IsOnCircle graph u) there.1 (answered on_circle says i on_path.2 there.0))
+        ]
 
-  closed_closed : (v w : ℕ) → mark_of marks v ≡ Finished → Leads graph v w → mark_of marks w ≡ Finished
-  closed_closed v w now lead =
-      elim (finished_now v now) [
-        | inl finished ↦ marked_by w Finished (s.finished.closed v w finished lead)
-        | inr on_path ↦
-            let there = s.path.placed v on_path.0 on_path.1 in
-            elim (own_edges graph old s before g last done on_path.0 w on_path.2 there.0 (subst (λ (u : ℕ). Leads graph u w) (sym there.1) lead)) [
-              | inl finished ↦ marked_by w Finished finished
-              | inr own ↦ of_group w own.0 own.1 own.2
-            ]
-      ]
-
-  ordered_closed : (v : ℕ) → mark_of marks v ≡ Finished → Contains (old.order.items ++ drop g.first old.path.items) v
-  ordered_closed v now =
-      elim (finished_now v now) [
-        | inl finished ↦ Contains-append_left old.order.items (drop g.first old.path.items) v (s.finished.ordered v finished)
-        | inr on_path ↦
-            let i = on_path.0 in
-            let there = s.path.placed v i on_path.1 in
-            let at : g.first + (i - g.first) ≡ i = omega (arith, on_path.2) in
-            Contains-append_right old.order.items (drop g.first old.path.items) v (
-              i - g.first,
-              omega (arith, there.0, on_path.2, length-drop g.first old.path.items),
-              get_or-drop g.first old.path.items (i - g.first) v ∙ ap (λ (n : ℕ). get_or old.path.items n v) at ∙ get_or_default old.path.items i v 0 there.0 ∙ there.1,
-            )
-      ]
-
-  behind_closed : (i w : ℕ) → i < length (old.order.items ++ drop g.first old.path.items) → (IsOnCircle graph (slice_index (old.order.items ++ drop g.first old.path.items) i) → ⊥)
-      → Leads graph (slice_index (old.order.items ++ drop g.first old.path.items) i) w → (j : ℕ) × (j < i) × (slice_index (old.order.items ++ drop g.first old.path.items) j ≡ w)
-  behind_closed i w h none lead =
-      let order = old.order.items in
-      let group = drop g.first old.path.items in
-      elim (cases_lt i (length order)) [
-        | inl front ↦
-            let at = get_or_append_left order group 0 i front in
-            let found = s.finished.behind i w front (λ circle. none (subst (λ (u : ℕ). IsOnCircle graph u) (sym at) circle)) (subst (λ (u : ℕ). Leads graph u w) at lead) in
-            (found.0, found.1, get_or_append_left order group 0 found.0 (omega (arith, found.1)) ∙ found.2)
-        | inr behind ↦
-            let k = g.first + (i - length order) in
-            let at : get_or (order ++ group) i 0 ≡ get_or old.path.items k 0 = get_or-append_right order group (length order) i 0 refl behind ∙ get_or-drop g.first old.path.items (i - length order) 0 in
-            let there : k < length old.path.items = omega (arith, length-append order group, length-drop g.first old.path.items) in
-            let from : g.first ≤ k = omega arith in
-            let free : IsOnCircle graph (get_or old.path.items k 0) → ⊥ = λ circle. none (subst (λ (u : ℕ). IsOnCircle graph u) (sym at) circle) in
-            let leads = subst (λ (u : ℕ). Leads graph u w) at lead in
-            elim (cases_lt (g.first + 1) (length old.path.items)) [
-              | inl more ↦ absurd (free (grouped graph old s before g last done k from there more))
-              | inr one ↦ elim (alone graph old s before g last done k w from there one leads) [
-                | inl finished ↦
-                    let found = s.finished.ordered w finished in
-                    (found.0, omega (arith, found.1), get_or_append_left order group 0 found.0 found.1 ∙ get_or_default order found.0 0 w found.1 ∙ found.2)
-                | inr same ↦ let v = get_or old.path.items k 0 in absurd (free (at_once v v (subst (λ (u : ℕ). Leads graph v u) same leads)))
+    closed_closed : (v w : ℕ) → mark_of mid.marks.items v ≡ Finished → Leads graph v w → mark_of mid.marks.items w ≡ Finished
+    closed_closed v w now lead =
+        elim (finished_now v now) [
+          | inl finished ↦ marked_by w Finished (s.finished.closed v w finished lead)
+          | inr on_path ↦
+              let there = s.path.placed v on_path.0 on_path.1 in
+              elim (own_edges on_path.0 w on_path.2 there.0 (subst (λ (u : ℕ). Leads graph u w) (sym there.1) lead)) [
+                | inl finished ↦ marked_by w Finished finished
+                | inr own ↦ of_group w own.0 own.1 own.2
               ]
-            ]
-      ]
+        ]
 
-  finished_closed : AreFinished graph marks flags (old.order.items ++ drop g.first old.path.items)
-  finished_closed = record {
-    ordered = ordered_closed;
-    vertices = All-append (λ v. v < length graph) old.order.items (drop g.first old.path.items) s.finished.vertices (All-drop (λ v. v < length graph) g.first old.path.items path_within);
-    closed = closed_closed;
-    circles = circles_closed;
-    behind = behind_closed;
-  }
+    ordered_closed : (v : ℕ) → mark_of mid.marks.items v ≡ Finished → Contains (old.order.items ++ drop g.first old.path.items) v
+    ordered_closed v now =
+        elim (finished_now v now) [
+          | inl finished ↦ Contains-append_left old.order.items (drop g.first old.path.items) v (s.finished.ordered v finished)
+          | inr on_path ↦
+              let i = on_path.0 in
+              let there = s.path.placed v i on_path.1 in
+              let at : g.first + (i - g.first) ≡ i = omega (arith, on_path.2) in
+              Contains-append_right old.order.items (drop g.first old.path.items) v (
+                i - g.first,
+                omega (arith, there.0, on_path.2, length-drop g.first old.path.items),
+                get_or-drop g.first old.path.items (i - g.first) v ∙ ap (λ (n : ℕ). get_or old.path.items n v) at ∙ get_or_default old.path.items i v 0 there.0 ∙ there.1,
+              )
+        ]
 
--- the search goes on without the last group
-pub closed : (graph : List (List ℕ)) (old mid new : Search) (s : IsSearch graph old) (before : List Group) (g : Group) (last : old.groups.items ≡ before ++ g ∷ []) (done : length old.ahead.items ≤ g.edges) (on_circle : Bool)
-    → (IsTrue on_circle ↔ ((g.first + 1 < length old.path.items) ⊎ Leads graph (slice_index old.path.items g.first) (slice_index old.path.items g.first)))
-    → AreClosed g.first (length old.path.items) on_circle old mid → mid.order.items ≡ old.order.items ++ drop g.first old.path.items
-    → new.marks ≡ mid.marks → new.on_circle ≡ mid.on_circle → new.order ≡ mid.order → new.ahead ≡ mid.ahead
-    → new.path.items ≡ take g.first old.path.items → new.groups.items ≡ before
-    → GoesOn graph old new
-closed graph old mid new s before g last done on_circle says c in_order marks flags order ahead path groups =
-    let still : new.ahead.items ≡ old.ahead.items = ap (λ v. v.items) ahead ∙ c.ahead in
-    let now : new.order.items ≡ old.order.items ++ drop g.first old.path.items = ap (λ v. v.items) order ∙ in_order in
-    let within = (g_within graph old s before g last done).0 in
-    let short = length-take-le g.first old.path.items (omega arith) in record {
-      search = record {
-        marks_long = ap (λ v. length v.items) marks ∙ c.marks_long ∙ s.marks_long;
-        flags_long = ap (λ v. length v.items) flags ∙ c.flags_long ∙ s.flags_long;
-        path = rw (marks, path) (path_closed graph old s before g last done on_circle says mid.marks.items mid.on_circle.items c.marks c.flags);
-        groups = rw (path, groups, still) (groups_closed graph old s before g last done on_circle says mid.marks.items mid.on_circle.items c.marks c.flags);
-        joined = rw (path, groups) (joined_closed graph old s before g last done on_circle says mid.marks.items mid.on_circle.items c.marks c.flags);
-        ahead = rw (path, groups, still) (ahead_closed graph old s before g last done on_circle says mid.marks.items mid.on_circle.items c.marks c.flags);
-        gone = rw (marks, path, groups, still) (λ i w h lead.
-            let less : i < g.first = omega arith in
-            gone_closed graph old s before g last done on_circle says mid.marks.items mid.on_circle.items c.marks c.flags i w less
-            (s.gone i w (omega arith) (subst (λ (u : ℕ). Leads graph u w) (get_or-take g.first old.path.items i 0 less) lead)));
-        finished = rw (marks, flags, now) (finished_closed graph old s before g last done on_circle says mid.marks.items mid.on_circle.items c.marks c.flags);
-        counted = rw (marks, path, now) (omega (arith, c.unseen, s.counted, length-append old.order.items (drop g.first old.path.items), length-drop g.first old.path.items, short));
-      };
-      seen = rw marks (λ v seen. ap is_unseen (c.marks v) ∙ after_seen g.first (length old.path.items) (mark_of old.marks.items v) seen);
-      fewer = rw (marks, groups, still, last) (omega (arith, c.unseen, length_push before g));
+    behind_closed : (i w : ℕ) → i < length (old.order.items ++ drop g.first old.path.items) → (IsOnCircle graph (slice_index (old.order.items ++ drop g.first old.path.items) i) → ⊥)
+        → Leads graph (slice_index (old.order.items ++ drop g.first old.path.items) i) w → (j : ℕ) × (j < i) × (slice_index (old.order.items ++ drop g.first old.path.items) j ≡ w)
+    behind_closed i w h none lead =
+        let order = old.order.items in
+        let group = drop g.first old.path.items in
+        elim (cases_lt i (length order)) [
+          | inl front ↦
+              let at = get_or_append_left order group 0 i front in
+              let found = s.finished.behind i w front (λ circle. none (subst (λ (u : ℕ). IsOnCircle graph u) (sym at) circle)) (subst (λ (u : ℕ). Leads graph u w) at lead) in
+              (found.0, found.1, get_or_append_left order group 0 found.0 (omega (arith, found.1)) ∙ found.2)
+          | inr behind ↦
+              let k = g.first + (i - length order) in
+              let at : get_or (order ++ group) i 0 ≡ get_or old.path.items k 0 = get_or-append_right order group (length order) i 0 refl behind ∙ get_or-drop g.first old.path.items (i - length order) 0 in
+              let there : k < length old.path.items = omega (arith, length-append order group, length-drop g.first old.path.items) in
+              let from : g.first ≤ k = omega arith in
+              let free : IsOnCircle graph (get_or old.path.items k 0) → ⊥ = λ circle. none (subst (λ (u : ℕ). IsOnCircle graph u) (sym at) circle) in
+              let leads = subst (λ (u : ℕ). Leads graph u w) at lead in
+              elim (cases_lt (g.first + 1) (length old.path.items)) [
+                | inl more ↦ absurd (free (grouped k from there more))
+                | inr one ↦ elim (alone k w from there one leads) [
+                  | inl finished ↦
+                      let found = s.finished.ordered w finished in
+                      (found.0, omega (arith, found.1), get_or_append_left order group 0 found.0 found.1 ∙ get_or_default order found.0 0 w found.1 ∙ found.2)
+                  | inr same ↦ let v = get_or old.path.items k 0 in absurd (free (at_once v v (subst (λ (u : ℕ). Leads graph v u) same leads)))
+                ]
+              ]
+        ]
+
+    finished_closed : AreFinished graph mid.marks.items mid.on_circle.items (old.order.items ++ drop g.first old.path.items)
+    finished_closed = record {
+      ordered = ordered_closed;
+      vertices = All-append (λ v. v < length graph) old.order.items (drop g.first old.path.items) s.finished.vertices (All-drop (λ v. v < length graph) g.first old.path.items path_within);
+      closed = closed_closed;
+      circles = circles_closed;
+      behind = behind_closed;
     }
+
+    -- the search goes on without the last group
+    pub closed : (new : Search) → mid.order.items ≡ old.order.items ++ drop g.first old.path.items
+        → new.marks ≡ mid.marks → new.on_circle ≡ mid.on_circle → new.order ≡ mid.order → new.ahead ≡ mid.ahead
+        → new.path.items ≡ take g.first old.path.items → new.groups.items ≡ before
+        → GoesOn graph old new
+    closed new in_order marks flags order ahead path groups =
+        let still : new.ahead.items ≡ old.ahead.items = ap (λ v. v.items) ahead ∙ c.ahead in
+        let now : new.order.items ≡ old.order.items ++ drop g.first old.path.items = ap (λ v. v.items) order ∙ in_order in
+        let short = length-take-le g.first old.path.items (omega (arith, g_within.0)) in record {
+          search = record {
+            marks_long = ap (λ v. length v.items) marks ∙ c.marks_long ∙ s.marks_long;
+            flags_long = ap (λ v. length v.items) flags ∙ c.flags_long ∙ s.flags_long;
+            path = rw (marks, path) path_closed;
+            groups = rw (path, groups, still) groups_closed;
+            joined = rw (path, groups) joined_closed;
+            ahead = rw (path, groups, still) ahead_closed;
+            gone = rw (marks, path, groups, still) (λ i w h lead.
+                let less : i < g.first = omega arith in
+                gone_closed i w less (s.gone i w (omega (arith, g_within.0)) (subst (λ (u : ℕ). Leads graph u w) (get_or-take g.first old.path.items i 0 less) lead)));
+            finished = rw (marks, flags, now) finished_closed;
+            counted = rw (marks, path, now) (omega (arith, c.unseen, s.counted, length-append old.order.items (drop g.first old.path.items), length-drop g.first old.path.items, short, g_within.0));
+          };
+          seen = rw marks (λ v seen. ap is_unseen (c.marks v) ∙ after_seen g.first (length old.path.items) (mark_of old.marks.items v) seen);
+          fewer = rw (marks, groups, still, last) (omega (arith, c.unseen, length_push before g));
+        }

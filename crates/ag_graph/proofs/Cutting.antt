@@ -1,5 +1,5 @@
 -- The targets of a graph, cut at the places where those of each vertex begin.
-use Rattle.std.proofs.Common.{◌≡◌, ℕ, zero, suc, ◌+◌, ◌-◌, ◌<◌, ◌≤◌, List, [], ◌∷◌, ◌++◌, length, get_or, take, drop, refl, sym, ap, subst, ◌∙◌, arith, length-append, length-drop}
+use Rattle.std.proofs.Common.{◌≡◌, ℕ, zero, suc, ◌-◌, ◌<◌, ◌≤◌, List, [], ◌∷◌, ◌++◌, length, get_or, take, drop, refl, sym, ap, subst, ◌∙◌, arith, length-drop}
 use Rattle.std.specs.Prelude.{slice_range, slice_index_or, slice_set}
 use Rattle.std.proofs.lemmas.List.{take-append-le, drop-append-le, take_all, take_rest, length_push}
 use Rattle.ag_graph.specs.Edges.{cut_at, AreStarts, with_edge}

@@ -1,17 +1,17 @@
 -- An edge ahead is gone through.
-use Rattle.std.proofs.Common.{◌≡◌, ℕ, ◌+◌, ◌-◌, ◌*◌, ◌^◌, ◌<◌, ◌≤◌, ◌⊎◌, List, [], ◌∷◌, ◌++◌, length, get_or, take, sym, ap, subst, ◌∙◌, refl, inl, inr, arith}
-use Rattle.std.specs.List.{All, Any, AllPairs, Contains, count_by}
+use Rattle.std.proofs.Common.{◌≡◌, ℕ, ◌-◌, ◌<◌, ◌≤◌, ◌⊎◌, List, [], ◌∷◌, ◌++◌, length, get_or, take, sym, ap, subst, ◌∙◌, inl, inr, arith}
+use Rattle.std.specs.List.{All, AllPairs}
 use Rattle.std.specs.Prelude.{slice_index}
 use Rattle.std.proofs.lemmas.Bool.{cases_lt}
 use Rattle.std.proofs.lemmas.List.{get_or_append_left, get_or_push, length-append, length-take-le, length_push, get_or_past, append-nil}
 use Rattle.std.proofs.lemmas.List.Elements.{All-append, All-contains, All-push}
 use Rattle.ag_graph.specs.declared.search.Mark.{Mark}
-use Rattle.ag_graph.specs.declared.search.Mark.TheVariants.{Unseen, OnPath, Finished}
+use Rattle.ag_graph.specs.declared.search.Mark.TheVariants.{OnPath, Finished}
 use Rattle.ag_graph.specs.declared.search.Group.{Group}
 use Rattle.ag_graph.specs.declared.search.Search.{Search}
 use Rattle.ag_graph.specs.Circles.{Leads, Reaches, IsGraph, at_once}
-use Rattle.ag_graph.specs.Search.{mark_of, is_unseen, Comes, NoLater, IsLast, IsPath, AreGroups, AreJoined, AreAhead, IsGoneOrAhead, AreFinished, IsSearch, GoesOn}
-use Rattle.ag_graph.proofs.Paths.{All-front, All-last, AllPairs-front, AllPairs-last, Any-not_back, split_last, back_of, comes_on, reaches_comes}
+use Rattle.ag_graph.specs.Search.{mark_of, NoLater, IsLast, AreGroups, AreJoined, AreAhead, IsGoneOrAhead, IsSearch, GoesOn}
+use Rattle.ag_graph.proofs.Paths.{All-front, AllPairs-front, AllPairs-last, Any-not_back, split_last, back_of, comes_on, reaches_comes}
 
 -- where no group's edges begin behind an edge ahead, the whole path reaches the vertex that it leads to
 pub all_reach : (graph : List (List ℕ)) (path : List ℕ) (groups : List Group) (ahead : List ℕ) (k : ℕ)

@@ -1,11 +1,10 @@
 -- Marks that are set, and vertices whose mark tells that they are finished.
-use Rattle.std.proofs.Common.{◌≡◌, ℕ, ◌<◌, ◌+◌, Bool, true, false, cond, List, length, get_or, set, sym, ap, ◌∙◌, refl, arith}
-use Rattle.std.specs.List.{sum_by, count_by}
+use Rattle.std.proofs.Common.{◌≡◌, ℕ, ◌<◌, ◌+◌, Bool, cond, List, length, set}
+use Rattle.std.specs.List.{count_by}
 use Rattle.std.proofs.lemmas.List.{get_or-set_same, get_or-set_other}
 use Rattle.std.proofs.lemmas.List.Sums.{sum_by-set}
 use Rattle.ag_graph.specs.declared.search.Mark.{Mark}
-use Rattle.ag_graph.specs.declared.search.Mark.TheVariants.{Unseen, OnPath, Finished}
-use Rattle.ag_graph.specs.Circles.{Leads}
+use Rattle.ag_graph.specs.declared.search.Mark.TheVariants.{Unseen, Finished}
 use Rattle.ag_graph.specs.Search.{mark_of, is_unseen, AreFinished}
 
 pub mark-set : (marks : List Mark) (v : ℕ) (m : Mark) → v < length marks → mark_of (set marks v m) v ≡ m

@@ -1,17 +1,17 @@
 -- A vertex is put at the end of the path.
-use Rattle.std.proofs.Common.{◌≡◌, ℕ, ◌+◌, ◌-◌, ◌*◌, ◌^◌, ◌<◌, ◌≤◌, ◌⊎◌, Bool, true, false, cond, List, [], ◌∷◌, ◌++◌, length, get_or, set, sym, ap, subst, ◌∙◌, refl, inl, inr, arith}
-use Rattle.std.specs.List.{All, Any, AllPairs, Contains, count_by}
+use Rattle.std.proofs.Common.{◌≡◌, ℕ, ◌+◌, ◌-◌, ◌<◌, ◌≤◌, Bool, true, false, cond, List, [], ◌∷◌, ◌++◌, length, get_or, set, sym, ap, subst, ◌∙◌, refl, inl, inr, arith}
+use Rattle.std.specs.List.{count_by}
 use Rattle.std.specs.Prelude.{slice_index}
 use Rattle.std.proofs.lemmas.Bool.{cases_lt, cases_eq, false≢true}
 use Rattle.std.proofs.lemmas.List.{get_or_append_left, get_or_push, get_or-append_right, get_or-append-add, get_or_default, length-append, length_push, length-set}
 use Rattle.std.proofs.lemmas.List.Elements.{All-push, Contains-get_or}
 use Rattle.std.proofs.lemmas.List.Quantifiers.{all_pairs_push, Any-push}
 use Rattle.ag_graph.specs.declared.search.Mark.{Mark}
-use Rattle.ag_graph.specs.declared.search.Mark.TheVariants.{Unseen, OnPath, Finished}
+use Rattle.ag_graph.specs.declared.search.Mark.TheVariants.{OnPath, Finished}
 use Rattle.ag_graph.specs.declared.search.Group.{Group}
 use Rattle.ag_graph.specs.declared.search.Search.{Search}
 use Rattle.ag_graph.specs.Circles.{Leads, Reaches}
-use Rattle.ag_graph.specs.Search.{mark_of, is_unseen, Comes, NoLater, IsPath, AreGroups, AreJoined, AreAhead, IsGoneOrAhead, AreFinished, IsSearch, GoesOn}
+use Rattle.ag_graph.specs.Search.{mark_of, is_unseen, IsPath, AreGroups, AreJoined, AreAhead, IsGoneOrAhead, AreFinished, IsSearch, GoesOn}
 use Rattle.ag_graph.proofs.Paths.{All-front, All-last, Any-front}
 use Rattle.ag_graph.proofs.Marks.{mark-set, mark-set_other, unseen-set, finished_kept}
 

@@ -1,10 +1,10 @@
 -- Ways through a graph, and lists of what holds of each item.
-use Rattle.std.proofs.Common.{◌≡◌, ℕ, ◌<◌, ◌≤◌, ◌+◌, ◌-◌, ◌⊎◌, List, [], ◌∷◌, ◌++◌, length, get_or, take, refl, sym, ap, subst, ◌∙◌, inl, inr, arith}
+use Rattle.std.proofs.Common.{◌≡◌, ℕ, ◌<◌, ◌+◌, ◌-◌, List, [], ◌∷◌, ◌++◌, length, get_or, take, refl, sym, ap, subst, ◌∙◌, inl, inr, arith}
 use Rattle.std.specs.List.{All, Any, AllPairs}
-use Rattle.std.proofs.lemmas.List.{get_or_append_left, get_or-append-add, length-append, length_push, get_or_push, get_or-append_right, take_all, take_at, take_more, append_assoc}
+use Rattle.std.proofs.lemmas.List.{get_or_append_left, length-append, length_push, get_or_push, get_or-append_right, take_all, take_at, take_more, append_assoc}
 use Rattle.std.proofs.lemmas.List.Elements.{All-cons}
 use Rattle.std.proofs.lemmas.Bool.{cases_lt}
-use Rattle.ag_graph.specs.Circles.{Leads, Reaches, at_once, through}
+use Rattle.ag_graph.specs.Circles.{Reaches, at_once, through}
 use Rattle.ag_graph.specs.Search.{Comes}
 
 pub reaches_on : (graph : List (List ℕ)) (v w x : ℕ) → Reaches graph v w → Reaches graph w x → Reaches graph v x

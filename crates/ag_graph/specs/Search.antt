@@ -11,7 +11,7 @@ use Rattle.ag_graph.specs.Circles.{Leads, Reaches, IsOnCircle}
 abbrev pub mark_of : List Mark → ℕ → Mark
 mark_of marks v = slice_index_or marks v Unseen
 
--- no vertex has this mark but one that the search hasn't come to
+-- it is the mark of a vertex that the search hasn't come to
 abbrev pub is_unseen : Mark → Bool
 is_unseen Unseen = true
 is_unseen (OnPath i) = false

@@ -2,7 +2,7 @@
 //!
 //! An edge back to the path makes one group of all groups from there on. A last group whose edges are
 //! all gone through leads, apart from itself, only to vertices that are finished, and so is finished.
-ghost use Rattle.std.specs.Prelude.{◌≡◌, ◌<◌, ◌≤◌, ◌+◌, ◌^◌, ◌++◌, ◌∷◌, [], ◌↔◌, ◌⊎◌, ℕ, List, length, drop, IfOk, OnOk, IsTrue, slice_index, slice_index_or, slice_set};
+ghost use Rattle.std.specs.Prelude.{◌≡◌, ◌<◌, ◌≤◌, ◌+◌, ◌++◌, ◌∷◌, [], ◌↔◌, ◌⊎◌, ℕ, List, length, drop, IfOk, OnOk, IsTrue, slice_index, slice_index_or, slice_set};
 ghost use Rattle.std.specs.List.{All};
 ghost use Rattle.ag_graph.specs.declared.search.Group.{Group};
 ghost use Rattle.ag_graph.specs.declared.search.Mark.TheVariants.{OnPath, Finished};
@@ -226,7 +226,7 @@ fn join_from(groups: &mut Vec<Group>, place: usize)
 
 /// Which vertices lead back to themselves, in time and memory in proportion to vertices and edges.
 pub fn circles(alloc: Global, graph: &Graph) -> Result<Circles, OutOfMemory>
-    requires graph { IsGraph graph.now }
+    requires { IsGraph graph.now }
     ensures { IfOk result (λ c. AreCircles graph.now c.on_circle c.order) }
 {
     let mut search = Search::new(alloc, graph)?;

@@ -1,5 +1,5 @@
 //! What no contract can say: that memory suffices, and graphs that were worked out by hand.
-ghost use Rattle.std.specs.Prelude.{◌<◌, ◌^◌, length, IfOk};
+ghost use Rattle.std.specs.Prelude.{IfOk};
 ghost use Rattle.ag_graph.specs.Circles.{IsGraph};
 
 use crate::{Graph, circles};
@@ -25,7 +25,7 @@ fn graph_of(rt: &impl Abort, alloc: Global, rows: &[&[usize]]) -> Result<Graph, 
 // Graphs with the vertices on a circle, and the order.
 #[test]
 fn finds_circles(rt: HostRuntime) -> Result<(), OutOfMemory> {
-    let rows: [(&[&[usize]], &[bool], &[usize]); 6] = [
+    let rows: [(&[&[usize]], &[bool], &[usize]); 7] = [
         (&[], &[], &[]),
         // a chain
         (&[&[1], &[2], &[]], &[false, false, false], &[2, 1, 0]),
@@ -38,6 +38,12 @@ fn finds_circles(rt: HostRuntime) -> Result<(), OutOfMemory> {
             &[&[1], &[0, 2], &[3], &[4], &[3]],
             &[true, true, false, true, true],
             &[3, 4, 2, 0, 1],
+        ),
+        // a chain behind a circle of three
+        (
+            &[&[3, 1], &[2], &[0], &[4], &[]],
+            &[true, true, true, false, false],
+            &[4, 3, 0, 1, 2],
         ),
         // two ways to one vertex
         (&[&[1, 2], &[3], &[3], &[]], &[false; 4], &[3, 2, 1, 0]),

@@ -1,13 +1,12 @@
 -- The first of what is broken, by parts.
-use Rattle.std.proofs.Common.{◌≡◌, ℕ, zero, suc, ◌<◌, Bool, true, false, not, List, [], ◌∷◌, refl, inl, inr, ap, sym, ◌∙◌, arith, nat_lt, ◌||◌, ◌&&◌}
-use Rattle.std.specs.Prelude.{Option, Some, None, ◌⊎◌, Contains, if◌then◌else◌, length, slice_index_or}
+use Rattle.std.proofs.Common.{◌≡◌, zero, suc, Bool, true, false, List, [], ◌∷◌, refl, inl, inr, ap, sym, ◌∙◌, arith}
+use Rattle.std.specs.Prelude.{Option, Some, None, ◌⊎◌, Contains, if◌then◌else◌}
 use Rattle.std.proofs.Math.Path.{subst}
 use Rattle.std.proofs.lemmas.Bool.{cases_Bool, true≢false}
-use Rattle.std.proofs.lemmas.Bool.Decides.{nat_tests}
 use Rattle.ag_base.specs.declared.place.Refusal.{Refusal}
 use Rattle.ag_types.specs.Answers.{comes_first, IsFirst}
 use Rattle.ag_types.specs.Firsts.{either}
-use Rattle.ag_types.specs.Places.{order_of, first_refusal, first_with, first_broken}
+use Rattle.ag_types.specs.Places.{first_broken}
 use Rattle.ag_types.proofs.Breaking.{comes_before, comes_before-trans, comes_before-skips, comes_before-by_place, comes_before-self, first_refusal-is, first_with-is}
 
 by_place : (r q : Refusal) → comes_first r q ≡ comes_before r q

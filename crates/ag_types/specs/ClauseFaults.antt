@@ -1,9 +1,9 @@
 -- What the clauses of a scope break of the rules on names and types, but for circles and numbers.
-use Rattle.std.specs.Prelude.{◌≡◌, ℕ, Bool, true, false, not, ◌==◌, ◌&&◌, ◌||◌, List, [], ◌∷◌, ◌++◌, map, length, Option, Some, None, is_none, if◌then◌else◌}
-use Rattle.std.specs.List.{filter, flat_map, list_all, list_any}
+use Rattle.std.specs.Prelude.{Bool, not, ◌==◌, ◌&&◌, ◌||◌, List, [], ◌∷◌, ◌++◌, map, length, Option, Some, None, is_none, if◌then◌else◌}
+use Rattle.std.specs.List.{flat_map, list_any}
 use Rattle.ag_base.specs.declared.place.Place.{Place}
 use Rattle.ag_base.specs.declared.place.Refusal.{Refusal}
-use Rattle.ag_base.specs.declared.place.Rule.TheVariants.{Twice, TwoSources, Unknown, Mismatch, Arity}
+use Rattle.ag_base.specs.declared.place.Rule.TheVariants.{Twice, TwoSources, Mismatch, Arity}
 use Rattle.ag_aadl.specs.declared.packages.Ident.{Ident}
 use Rattle.ag_aadl.specs.declared.packages.Path.{Path}
 use Rattle.ag_aadl.specs.Words.{same}
@@ -12,13 +12,9 @@ use Rattle.ag_annex.specs.declared.clauses.Clause.TheVariants as clause
 use Rattle.ag_annex.specs.declared.clauses.Equal.{Equal}
 use Rattle.ag_annex.specs.declared.clauses.Labelled.{Labelled}
 use Rattle.ag_annex.specs.declared.clauses.NodeDef.{NodeDef}
-use Rattle.ag_annex.specs.declared.clauses.Ty.{Ty}
-use Rattle.ag_annex.specs.declared.clauses.Ty.TheVariants.{Int, Bool as Boolean}
+use Rattle.ag_annex.specs.declared.clauses.Ty.TheVariants.{Bool as Boolean}
 use Rattle.ag_annex.specs.declared.clauses.Var.{Var}
-use Rattle.ag_annex.specs.declared.terms.Binary.{Binary}
-use Rattle.ag_annex.specs.declared.terms.Binary.TheVariants.{Arrow}
-use Rattle.ag_annex.specs.declared.terms.Term.{Term, Number, Truth, Named, Unary', Binary', Choice', Call', Row_of-Term, end_of-Term, more_of-Term}
-use Rattle.ag_annex.specs.declared.terms.Unary.TheVariants as unary
+use Rattle.ag_annex.specs.declared.terms.Term.{Term, Call', Row_of-Term}
 use Rattle.ag_types.specs.Places.{is_before, path_place, first_place}
 use Rattle.ag_types.specs.Constants.{is_varying}
 use Rattle.ag_types.specs.Seen.{Seen, Names, own_ports, clauses_seen, eq_streams_in, node_vars, names_of_node, over_sites, value_named, node_of}

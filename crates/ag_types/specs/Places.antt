@@ -3,7 +3,7 @@ use Rattle.std.specs.Prelude.{ℕ, ◌==◌, ◌&&◌, ◌||◌, Bool, nat_lt, L
 use Rattle.ag_base.specs.declared.place.Place.{Place}
 use Rattle.ag_base.specs.declared.place.Refusal.{Refusal}
 use Rattle.ag_base.specs.declared.place.Rule.{Rule}
-use Rattle.ag_base.specs.declared.place.Rule.TheVariants.{Twice, TwoSources, Unknown, Mismatch, Arity}
+use Rattle.ag_base.specs.declared.place.Rule.TheVariants.{Twice, TwoSources, Unknown, Mismatch, Arity, NodeRecursion, NotLinear, BadDivisor, Coefficient}
 use Rattle.ag_annex.specs.declared.terms.Term.{Term, Number, Truth, Named, Unary', Binary', Choice', Call', end_of-Term, more_of-Term}
 use Rattle.ag_aadl.specs.declared.packages.Ident.{Ident}
 use Rattle.ag_aadl.specs.declared.packages.Path.{Path}
@@ -40,7 +40,11 @@ order_of TwoSources = 1
 order_of Unknown = 2
 order_of Mismatch = 3
 order_of Arity = 4
-order_of _ = 5
+order_of NodeRecursion = 5
+order_of NotLinear = 6
+order_of BadDivisor = 7
+order_of Coefficient = 8
+order_of _ = 9
 
 -- of two broken rules the one that is answered
 abbrev pub first_refusal : Refusal → Refusal → Refusal

@@ -1,19 +1,26 @@
 //! What annexes see, and the types of their expressions.
 //!
-//! It promises that a scope is made exactly where its clauses break no rule on names and types, and else
-//! the first rule that they break is answered; and that an expression's type is the one that its operators
-//! and names give it. Start at `Scope::make`, and at specs/Answers.antt.
+//! It promises that a scope is made exactly where its clauses break no rule on types, and else the first
+//! rule that they break is answered; and that an expression's type is the one that its operators and names
+//! give it. Start at `Scope::make`, and at specs/Answers.antt.
 #![tactic(auto)]
 
 mod claims;
 mod clauses;
+mod constants;
 mod earliest;
 mod equations;
 mod faults;
 mod gather;
 mod index;
 mod names;
+mod number_clauses;
+mod number_faults;
+mod number_rows;
+mod numbered;
+mod numbers;
 mod places;
+mod rows;
 pub mod scope;
 mod sight;
 mod sites;
@@ -21,6 +28,8 @@ mod sources;
 mod table;
 mod twice;
 mod types;
+mod uses;
+pub mod value;
 
 pub use scope::{Scope, type_of};
 pub use types::one_answer;

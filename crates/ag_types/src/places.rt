@@ -39,7 +39,11 @@ fn order_of(rule: Rule) -> u8
         Rule::Unknown => 2,
         Rule::Mismatch => 3,
         Rule::Arity => 4,
-        _ => 5,
+        Rule::NodeRecursion => 5,
+        Rule::NotLinear => 6,
+        Rule::BadDivisor => 7,
+        Rule::Coefficient => 8,
+        _ => 9,
     }
 }
 

@@ -1,30 +1,35 @@
-//! A scope: clauses that break no rule on names and types, and what they see.
-ghost use Rattle.std.specs.Prelude.{◌≡◌, Err, IfOk};
+//! A scope: clauses that break no rule on types, and what they see.
+ghost use Rattle.std.specs.Prelude.{◌≡◌, Err, IfOk, map};
 ghost use Rattle.std.specs.Option.{option_copied};
 ghost use Rattle.std.specs.Coded.{codes};
 ghost use Rattle.std.proofs.Props.{props};
 ghost use Rattle.ag_annex.specs.contracts.terms.Term as term;
 ghost use Rattle.ag_base.specs.declared.place.Refusal.{Refusal};
 ghost use Rattle.ag_base.specs.declared.place.Refused.TheVariants.{Model};
-ghost use Rattle.ag_types.specs.Answers.{IsRefusal, IsSound};
-ghost use Rattle.ag_types.specs.ClauseFaults.{faults_of};
-ghost use Rattle.ag_types.specs.Places.{first_broken};
-ghost use Rattle.ag_types.specs.Seen.{Seen, names_seen, value_of, node_of};
+ghost use Rattle.ag_types.specs.Answers.{Breaks, IsFirst, IsRefusal, IsSound};
+ghost use Rattle.ag_types.specs.Constants.{AreKept};
+ghost use Rattle.ag_types.specs.Seen.{Seen, library_names, frame_names, names_seen, value_of, node_of};
 ghost use Rattle.ag_types.specs.Types.{IsTyped, IsIllTyped};
+ghost use Rattle.ag_types.specs.Uses.{AreValues, IsCircular};
 
+use crate::constants::values;
 use crate::faults::first_fault;
+use crate::number_clauses::first_number_fault;
+use crate::places::either;
 use crate::sight::Sight;
 use crate::sites::{Site, Sites};
 use crate::types::type_of_term;
+use crate::uses::{constants, first_circle, uses};
+use crate::value::Value;
 use ag_aadl::packages::Path;
 use ag_annex::{Clause, NodeDef, Term, Ty, Var};
 use ag_base::{OutOfMemory, Refusal, Refused};
+use ag_graph::circles;
 use std::alloc::Global;
 use std::marker::Model;
 
 /// The clauses of a package's own annexes, of a component type's and of an implementation's, and the
-/// streams of ports, which together break no rule on names and types. It lends these, and finds names
-/// in them.
+/// streams of ports, which together break no rule on types. It lends these, and finds names in them.
 #[derive(Drop)]
 pub struct Scope<'a> {
     library: &'a [Clause],
@@ -32,7 +37,10 @@ pub struct Scope<'a> {
     body: &'a [Clause],
     ports: &'a [Var],
     site: Site<'a>,
+    values: Vec<Option<Value>>,
     ghost sees: { site ≡ names_seen (record { library = library.now; frame = frame.now; body = body.now; ports = ports.now }) } by { Prim.hlevel (props, codes, term.the_row.coded) },
+    ghost valued: { AreValues (record { library = library.now; frame = frame.now; body = body.now; ports = ports.now }) values.items } by { Prim.hlevel (props, codes, term.the_row.coded) },
+    ghost kept: { AreKept values.items } by { Prim.hlevel (props, codes) },
 }
 
 impl<'a> Model for Scope<'a> {
@@ -48,8 +56,8 @@ impl<'a> Model for Scope<'a> {
 }
 
 impl<'a> Scope<'a> {
-    /// The scope of these clauses and streams, or the first rule on names and types that the clauses
-    /// break. Streams of subcomponents are named `c.x`; a port without a stream isn't listed.
+    /// The scope of these clauses and streams, or the first rule on types that the clauses break. Streams
+    /// of subcomponents are named `c.x`; a port without a stream isn't listed.
     pub fn make(
         alloc: Global,
         library: &'a [Clause],
@@ -76,6 +84,7 @@ impl<'a> Scope<'a> {
                 body,
                 ports,
                 site: checked.site,
+                values: checked.values,
             }),
         }
     }
@@ -118,10 +127,18 @@ impl<'a> Scope<'a> {
         self.sight().node_of(path)
     }
 
-    fn sight(&self) -> Sight<'_>
+    pub(crate) fn sight(&self) -> Sight<'_>
         ensures { result ≡ names_seen self.now }
     {
         self.site.sight()
+    }
+
+    // The values of the constants, in order.
+    pub(crate) fn values(&self) -> &[Option<Value>]
+        ensures values { AreValues self.now result.now }
+        ensures kept { AreKept result.now }
+    {
+        self.values.as_slice()
     }
 }
 
@@ -135,10 +152,11 @@ pub fn type_of(scope: &Scope<'_>, term: &Term) -> Result<Ty, Refusal>
     type_of_term(&scope.sight(), term)
 }
 
-// What an implementation's clauses see, and the first broken rule.
+// What an implementation's clauses see, the values of the constants, and the first broken rule.
 #[derive(Drop)]
 struct Checked<'a> {
     site: Site<'a>,
+    values: Vec<Option<Value>>,
     broken: Option<Refusal>,
 }
 
@@ -150,12 +168,58 @@ fn check<'a>(
     ports: &'a [Var],
 ) -> Result<Checked<'a>, OutOfMemory>
     ensures site { IfOk result (λ c. c.site ≡ names_seen (record { library = library.now; frame = frame.now; body = body.now; ports = ports.now })) }
-    ensures broken { IfOk result (λ c. c.broken ≡ first_broken (faults_of (record { library = library.now; frame = frame.now; body = body.now; ports = ports.now }))) }
+    ensures values { IfOk result (λ c. AreValues (record { library = library.now; frame = frame.now; body = body.now; ports = ports.now }) c.values.items) }
+    ensures kept { IfOk result (λ c. AreKept c.values.items) }
+    ensures broken { IfOk result (λ c. IsFirst (Breaks (record { library = library.now; frame = frame.now; body = body.now; ports = ports.now }) c.values.items) c.broken) }
 {
     let sites = Sites::make(alloc, library, frame, body, ports)?;
-    let broken = first_fault(alloc, &sites, library, frame, body, ports)?;
+    let evaluated = evaluate(alloc, &sites, &*library, &*frame, &*body, ports)?;
+    let values = evaluated.values;
+    let of_names = first_fault(alloc, &sites, library, frame, body, ports)?;
+    let of_numbers = first_number_fault(
+        alloc,
+        &sites,
+        values.as_slice(),
+        library,
+        frame,
+        body,
+        ports,
+    )?;
     Ok(Checked {
         site: sites.body,
-        broken,
+        values,
+        broken: either(of_names, either(evaluated.circular, of_numbers)),
     })
+}
+
+// The values of a scope's constants, and the first constant or node that uses itself.
+#[derive(Drop)]
+struct Evaluated {
+    values: Vec<Option<Value>>,
+    circular: Option<Refusal>,
+}
+
+fn evaluate<'s>(
+    alloc: Global,
+    sites: &'s Sites<'_>,
+    library: &'s [Clause],
+    frame: &'s [Clause],
+    body: &'s [Clause],
+    ports: &[Var],
+) -> Result<Evaluated, OutOfMemory>
+    ghost seen: { Seen }
+    requires seen { seen ≡ record { library = library.now; frame = frame.now; body = body.now; ports = ports.now } }
+    requires library { sites.now.library ≡ library_names seen }
+    requires frame { sites.now.frame ≡ frame_names seen }
+    requires body { sites.now.body ≡ names_seen seen }
+    ensures values { IfOk result (λ e. AreValues seen e.values.items) }
+    ensures kept { IfOk result (λ e. AreKept e.values.items) }
+    ensures circular { IfOk result (λ e. IsFirst (IsCircular seen) e.circular) }
+{
+    let constants = constants(alloc, sites, library, frame, body)?;
+    let uses = uses(alloc, sites, constants.as_slice(), library, frame, body)?;
+    let circles = circles(alloc, &uses)?;
+    let values = values(alloc, constants.as_slice(), &circles)?;
+    let circular = first_circle(sites, constants.as_slice(), &circles);
+    Ok(Evaluated { values, circular })
 }

@@ -1,6 +1,7 @@
 //! What an expression may name.
 ghost use Rattle.std.specs.Prelude.{◌≡◌};
 ghost use Rattle.std.specs.Option.{option_copied};
+ghost use Rattle.ag_types.specs.Constants.{constant_position, is_stream};
 ghost use Rattle.ag_types.specs.Seen.{Names, position, var_name, node_name, sought, value_of, node_of};
 
 use crate::table::{Nodes, Vars};
@@ -51,5 +52,22 @@ impl<'a> Sight<'a> {
         ensures { result ≡ position var_name (sought path.now path.now.«package») self.now.streams }
     {
         self.streams.position(path)
+    }
+
+    /// The position of a constant of that name, which is no stream's.
+    pub fn constant(&self, path: &Path) -> Option<usize>
+        ensures { result ≡ constant_position self.now (sought path.now path.now.«package») }
+    {
+        match self.streams.position(path) {
+            Some(_) => None,
+            None => self.constants.position(path),
+        }
+    }
+
+    /// The position of a node of that name.
+    pub fn node(&self, path: &Path) -> Option<usize>
+        ensures { result ≡ position node_name (sought path.now path.now.«package») self.now.nodes }
+    {
+        self.nodes.position(path)
     }
 }

@@ -404,6 +404,140 @@ fn refuses_clauses(rt: HostRuntime) -> Result<(), Fail> {
             "",
             Rule::Arity,
         ),
+        // No constant and no node uses itself.
+        ("const ^a : int = a + 1;", "", "", Rule::NodeRecursion),
+        (
+            "const ^a : int = b; const b : int = a;",
+            "",
+            "",
+            Rule::NodeRecursion,
+        ),
+        (
+            "const a : int = b; const ^b : int = c; const c : int = b;",
+            "",
+            "",
+            Rule::NodeRecursion,
+        ),
+        (
+            "node ^f(x : int) returns (y : int); let y = f(x); tel;",
+            "",
+            "",
+            Rule::NodeRecursion,
+        ),
+        (
+            "node ^f(x : int) returns (y : int); let y = g(x); tel; node g(x : int) returns (y : int); let y = f(x); tel;",
+            "",
+            "",
+            Rule::NodeRecursion,
+        ),
+        (
+            "const ^k : int = f(1); node f(x : int) returns (y : int); let y = x + k; tel;",
+            "",
+            "",
+            Rule::NodeRecursion,
+        ),
+        (
+            "const a : int = b + c; const b : int = c; const c : int = 7;",
+            "guarantee \"\" : i div (^a - 14) = 0;",
+            "",
+            Rule::BadDivisor,
+        ),
+        // Products and divisors.
+        ("", "guarantee \"\" : i ^* i > 0;", "", Rule::NotLinear),
+        ("", "guarantee \"\" : i div ^0 = 1;", "", Rule::BadDivisor),
+        ("", "guarantee \"\" : 7 mod ^i = 1;", "", Rule::BadDivisor),
+        (
+            "const z : int = 3 - 3;",
+            "guarantee \"\" : i div ^z = 1;",
+            "",
+            Rule::BadDivisor,
+        ),
+        (
+            "const ^z : int = z;",
+            "guarantee \"\" : i div z = 1;",
+            "",
+            Rule::NodeRecursion,
+        ),
+        // Limits of constants, at each level and by exact values.
+        (
+            "const c : int = 2147483648 * 2147483648;",
+            "",
+            "",
+            Rule::Coefficient,
+        ),
+        (
+            "const c : int = ^2147483648 * 2147483648 + 1;",
+            "",
+            "",
+            Rule::Coefficient,
+        ),
+        (
+            "const c : int = ^1 + 140737488355328 * 140737488355328;",
+            "",
+            "",
+            Rule::Coefficient,
+        ),
+        (
+            "const c : int = if true then 1 else ^140737488355328 * 140737488355328;",
+            "",
+            "",
+            Rule::Coefficient,
+        ),
+        (
+            "const c : int = ^if true then 140737488355328 * 140737488355328 else 0;",
+            "",
+            "",
+            Rule::Coefficient,
+        ),
+        (
+            "const b : bool = 140737488355328 * 4 < 0;",
+            "",
+            "",
+            Rule::Coefficient,
+        ),
+        // Limits of rows: the comparison's own row passes too.
+        (
+            "",
+            "eq x : int; guarantee \"\" : i > 2147483648 * x;",
+            "",
+            Rule::Coefficient,
+        ),
+        (
+            "",
+            "eq x : int; guarantee \"\" : ^i > 2147483649 * x;",
+            "",
+            Rule::Coefficient,
+        ),
+        (
+            "",
+            "guarantee \"\" : ^140737488355328 * 4 < 0;",
+            "",
+            Rule::Coefficient,
+        ),
+        (
+            "",
+            "eq x : int = 140737488355328 + 140737488355328;",
+            "",
+            Rule::Coefficient,
+        ),
+        (
+            "",
+            "eq x : int = ^140737488355328 + 140737488355328 + 1;",
+            "",
+            Rule::Coefficient,
+        ),
+        (
+            "",
+            "eq x : int = pre(^140737488355328 * 4);",
+            "",
+            Rule::Coefficient,
+        ),
+        (
+            "",
+            "",
+            "assign i = 0 -> ^140737488355328 * 4;",
+            Rule::Coefficient,
+        ),
         // Of several the first in the text, and at one place the first in the order of the rules.
         (
             "const n : int = ^true;",

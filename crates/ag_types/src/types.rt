@@ -247,7 +247,7 @@ pub fn inputs_of(node: Option<&NodeDef>) -> &[Var]
     }
 }
 
-fn type_of_call(node: Option<&NodeDef>) -> Option<Ty>
+pub fn type_of_call(node: Option<&NodeDef>) -> Option<Ty>
     ensures { result ≡ type_of_call (option_copied node.entry) }
 {
     match node {

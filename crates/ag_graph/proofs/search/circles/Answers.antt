@@ -1,5 +1,4 @@
-use Rattle.std.proofs.Common.{◌<◌, ℕ, List, Bool, length, sym, arith}
-use Rattle.ag_graph.specs.Circles.{AreCircles}
+use Rattle.std.proofs.Common.{◌<◌, ℕ, length, arith}
 use Rattle.ag_graph.specs.Search.{IsSeen}
 use Rattle.ag_graph.proofs.Answering.{answers}
 use Rattle.ag_graph.proofs.search.circles.Goals as goal

@@ -1,5 +1,4 @@
-use Rattle.std.proofs.Common.{◌<◌, ◌-◌, ℕ, take, ap, subst, ◌∙◌}
-use Rattle.std.specs.List.{All}
+use Rattle.std.proofs.Common.{◌<◌, ◌-◌, ℕ, take, ap, ◌∙◌}
 use Rattle.ag_graph.specs.declared.search.Group.{Group}
 use Rattle.ag_graph.proofs.Paths.{off_more}
 use Rattle.ag_graph.proofs.search.join_from.Goals as goal

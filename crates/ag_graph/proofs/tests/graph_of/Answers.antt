@@ -1,4 +1,4 @@
-use Rattle.std.proofs.Common.{◌≡◌, ◌<◌, length, ap, ◌∙◌, arith}
+use Rattle.std.proofs.Common.{◌≡◌, length, ap, ◌∙◌, arith}
 use Rattle.ag_graph.proofs.Building.{below_edge, length-with_edge}
 use Rattle.ag_graph.proofs.tests.graph_of.Goals as goal
 

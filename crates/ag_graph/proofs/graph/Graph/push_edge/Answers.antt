@@ -1,5 +1,4 @@
-use Rattle.std.proofs.Common.{◌≡◌, ◌++◌, ◌∷◌, [], ◌<◌, ℕ, List, length, sym, ap, subst, ◌∙◌}
-use Rattle.ag_graph.specs.Edges.{cut_at, AreStarts, with_edge}
+use Rattle.std.proofs.Common.{◌<◌, ℕ, length, sym, ap, subst, ◌∙◌}
 use Rattle.ag_graph.proofs.Cutting.{length_cut, cut_with_edge, starts_wider}
 use Rattle.ag_graph.proofs.graph.Graph.push_edge.Goals as goal
 

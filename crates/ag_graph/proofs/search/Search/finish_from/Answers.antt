@@ -1,4 +1,4 @@
-use Rattle.std.proofs.Common.{◌≡◌, ◌+◌, ◌-◌, ◌<◌, ◌++◌, ◌∷◌, [], ℕ, List, length, get_or, take, drop, refl, sym, ap, subst, ◌∙◌, arith}
+use Rattle.std.proofs.Common.{◌≡◌, ◌-◌, ◌<◌, ◌++◌, ◌∷◌, [], ℕ, List, length, get_or, take, drop, ap, subst, ◌∙◌, arith}
 use Rattle.ag_graph.specs.Search.{AreClosed}
 use Rattle.ag_graph.proofs.Finishing.{closed_more, order_more}
 use Rattle.ag_graph.proofs.search.Search.finish_from.Goals as goal

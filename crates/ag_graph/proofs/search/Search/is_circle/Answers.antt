@@ -1,12 +1,9 @@
-use Rattle.ag_graph.proofs.Closing.{closed}
-use Rattle.ag_graph.proofs.Following.{followed}
-use Rattle.std.proofs.Common.{◌≡◌, ℕ, List, Decides, eqb, get_or, inl, inr, subst, arith, rules}
+use Rattle.std.proofs.Common.{◌≡◌, ℕ, List, Decides, eqb, get_or, inl, inr, subst, arith}
 use Rattle.std.specs.List.{Contains}
 use Rattle.std.proofs.lemmas.Bool.Decides.{Decides-eqb}
 use Rattle.std.proofs.lemmas.List.{get_or_read}
 use Rattle.std.proofs.lemmas.List.Elements.{contains_decides, Decides-contains}
 use Rattle.ag_graph.specs.Circles.{Leads}
-use Rattle.ag_graph.proofs.Paths.{reaches_on}
 use Rattle.ag_graph.proofs.search.Search.is_circle.Goals as goal
 
 pub returns-else-first-len : goal.returns-else-first-len

@@ -1,0 +1,208 @@
+//! Values of constants, and the parts of rows.
+ghost use Rattle.std.specs.Prelude.{◌≡◌, ◌≢◌, ◌+ℤ◌, ◌-ℤ◌, ◌*ℤ◌, pos, true, false, not, IsTrue, None, Some};
+ghost use Rattle.std.specs.Int.{int_div_euclid, int_rem_euclid};
+ghost use Rattle.std.specs.Option.{SomeIff};
+ghost use Rattle.ag_types.specs.Constants.{is_carried, is_within, carried, value_of_unary, value_of_binary, value_of_wholes, value_of_truths, value_of_choice};
+ghost use Rattle.ag_types.specs.NumberFaults.{passes_limit, is_bad_divisor};
+ghost use Rattle.ag_types.specs.declared.value.Value.TheVariants.{Whole, Truth};
+
+use ag_annex::{Binary, Unary};
+
+/// The value of a constant expression.
+#[derive(Clone, Copy, Debug, PartialEq, Eq)]
+pub enum Value {
+    Whole(i128),
+    Truth(bool),
+}
+
+/// A stream times a factor that isn't 0. Streams are numbered by their position among all that are seen;
+/// `before` asks for the stream's value of one instant earlier.
+#[derive(Clone, Copy, Debug, PartialEq, Eq)]
+pub struct Factor {
+    pub stream: usize,
+    pub before: bool,
+    pub factor: i128,
+}
+
+// The greatest magnitude of a constant, 2^62.
+const GREATEST: u128 = 4_611_686_018_427_387_904;
+
+/// A value of 128 bits, if there is one, and whether the exact one passes the limit of constants.
+#[derive(Clone, Copy, Debug, PartialEq, Eq)]
+pub struct Valued {
+    pub value: Option<Value>,
+    pub passes: bool,
+}
+
+/// The value of an operator before an operand that has this value.
+pub fn unary_value(op: Unary, arg: Option<Value>) -> Valued
+    ensures value { result.value ≡ carried (value_of_unary op arg) }
+    ensures passes { result.passes ≡ passes_limit (value_of_unary op arg) }
+{
+    match (op, arg) {
+        (Unary::Minus, Some(Value::Whole(z))) => whole(difference(0, z)),
+        (Unary::Not, Some(Value::Truth(b))) => truth(!b),
+        _ => none(),
+    }
+}
+
+/// The value of an operator between operands that have these values.
+pub fn binary_value(op: Binary, left: Option<Value>, right: Option<Value>) -> Valued
+    ensures value { result.value ≡ carried (value_of_binary op left right) }
+    ensures passes { result.passes ≡ passes_limit (value_of_binary op left right) }
+{
+    match (left, right) {
+        (Some(Value::Whole(a)), Some(Value::Whole(b))) => of_wholes(op, a, b),
+        (Some(Value::Truth(a)), Some(Value::Truth(b))) => of_truths(op, a, b),
+        _ => none(),
+    }
+}
+
+/// The value of a choice, whose test and branches have these values.
+pub fn choice_value(test: Option<Value>, yes: Option<Value>, no: Option<Value>) -> Option<Value>
+    ensures { result ≡ value_of_choice test yes no }
+{
+    match (test, yes, no) {
+        (Some(Value::Truth(test)), Some(Value::Whole(yes)), Some(Value::Whole(no))) => {
+            Some(Value::Whole(if test { yes } else { no }))
+        }
+        (Some(Value::Truth(test)), Some(Value::Truth(yes)), Some(Value::Truth(no))) => {
+            Some(Value::Truth(if test { yes } else { no }))
+        }
+        _ => None,
+    }
+}
+
+/// Whether a divisor isn't constant, or is 0.
+pub fn is_bad_divisor(varies: bool, value: Option<Value>) -> bool
+    ensures { result ≡ is_bad_divisor varies value }
+{
+    varies || matches!(value, Some(Value::Whole(0)))
+}
+
+fn of_wholes(op: Binary, a: i128, b: i128) -> Valued
+    ensures value { result.value ≡ carried (value_of_wholes op a b) }
+    ensures passes { result.passes ≡ passes_limit (value_of_wholes op a b) }
+{
+    match op {
+        Binary::Plus => whole(sum(a, b)),
+        Binary::Minus => whole(difference(a, b)),
+        Binary::Times => whole(product(a, b)),
+        Binary::Div if b != 0 => whole(quotient(a, b)),
+        Binary::Mod if b != 0 => whole(remainder(a, b)),
+        Binary::Less => truth(a < b),
+        Binary::AtMost => truth(a <= b),
+        Binary::More => truth(a > b),
+        Binary::AtLeast => truth(a >= b),
+        Binary::Same => truth(a == b),
+        Binary::Differs => truth(a != b),
+        _ => none(),
+    }
+}
+
+fn of_truths(op: Binary, a: bool, b: bool) -> Valued
+    ensures value { result.value ≡ carried (value_of_truths op a b) }
+    ensures passes { result.passes ≡ passes_limit (value_of_truths op a b) }
+{
+    match op {
+        Binary::Implies => truth(!a || b),
+        Binary::Iff | Binary::Same => truth(a == b),
+        Binary::Or => truth(a || b),
+        Binary::And => truth(a && b),
+        Binary::Differs => truth(a != b),
+        _ => none(),
+    }
+}
+
+/// A sum that has 128 bits.
+pub fn sum(a: i128, b: i128) -> Option<i128>
+    ensures { SomeIff result (IsTrue (is_carried (a +ℤ b))) (a +ℤ b) }
+{
+    match a.checked_add(b) {
+        None => None,
+        Some(z) => of_128_bits(z),
+    }
+}
+
+/// A difference that has 128 bits.
+pub fn difference(a: i128, b: i128) -> Option<i128>
+    ensures { SomeIff result (IsTrue (is_carried (a -ℤ b))) (a -ℤ b) }
+{
+    match a.checked_sub(b) {
+        None => None,
+        Some(z) => of_128_bits(z),
+    }
+}
+
+/// A product that has 128 bits.
+pub fn product(a: i128, b: i128) -> Option<i128>
+    ensures { SomeIff result (IsTrue (is_carried (a *ℤ b))) (a *ℤ b) }
+{
+    match a.checked_mul(b) {
+        None => None,
+        Some(z) => of_128_bits(z),
+    }
+}
+
+fn quotient(a: i128, b: i128) -> Option<i128>
+    requires { b ≢ pos 0 }
+    ensures { SomeIff result (IsTrue (is_carried (int_div_euclid a b))) (int_div_euclid a b) }
+{
+    if b == -1 {
+        return difference(0, a);
+    }
+    of_128_bits(a.div_euclid(b))
+}
+
+fn remainder(a: i128, b: i128) -> Option<i128>
+    requires { b ≢ pos 0 }
+    ensures { SomeIff result (IsTrue (is_carried (int_rem_euclid a b))) (int_rem_euclid a b) }
+{
+    if b == -1 {
+        return Some(0);
+    }
+    of_128_bits(a.rem_euclid(b))
+}
+
+// -2^127 isn't counted, so that with a number its opposite has 128 bits too.
+fn of_128_bits(z: i128) -> Option<i128>
+    ensures { SomeIff result (IsTrue (is_carried z)) z }
+{
+    if z == i128::MIN { None } else { Some(z) }
+}
+
+fn whole(exact: Option<i128>) -> Valued
+    ensures value { result.value ≡ elim exact [ None ↦ None | Some z ↦ Some (Whole z) ] }
+    ensures passes { result.passes ≡ elim exact [ None ↦ true | Some z ↦ not (is_within z) ] }
+{
+    match exact {
+        None => Valued {
+            value: None,
+            passes: true,
+        },
+        Some(z) => Valued {
+            value: Some(Value::Whole(z)),
+            passes: z.unsigned_abs() > GREATEST,
+        },
+    }
+}
+
+fn truth(b: bool) -> Valued
+    ensures value { result.value ≡ Some (Truth b) }
+    ensures passes { result.passes ≡ false }
+{
+    Valued {
+        value: Some(Value::Truth(b)),
+        passes: false,
+    }
+}
+
+fn none() -> Valued
+    ensures value { result.value ≡ None }
+    ensures passes { result.passes ≡ false }
+{
+    Valued {
+        value: None,
+        passes: false,
+    }
+}
