@@ -28,7 +28,7 @@ uses_at f [] ds w c e = cc
 uses_at f (x ∷ cs) ds zero c e = let same : x ≡ c = cc in ap (λ (z : Constant). f (of_constant z)) same
 uses_at f (x ∷ cs) ds (suc w) c e = uses_at f cs ds w c e
 
-leads_to : (s : Seen) (w u : ℕ) (c : Constant) → slice_get (constants_of s) w ≡ Some c → Contains (used_in c.names (length (constants_of s)) c.term) u → Leads (uses_of s) w u
+pub leads_to : (s : Seen) (w u : ℕ) (c : Constant) → slice_get (constants_of s) w ≡ Some c → Contains (used_in c.names (length (constants_of s)) c.term) u → Leads (uses_of s) w u
 leads_to s w u c e h =
     subst (λ (z : List ℕ). Contains z u) (sym (uses_at (used_by (length (constants_of s))) (constants_of s) (over_sites of_node s) w c e))
     (Contains-append_left (used_in c.names (length (constants_of s)) c.term) [] u h)
@@ -40,7 +40,7 @@ constants_within s =
     let c = length-map (constants_of s) of_constant in
     omega arith
 
-vertex_within : (s : Seen) (w : ℕ) (c : Constant) → slice_get (constants_of s) w ≡ Some c → w < length (uses_of s)
+pub vertex_within : (s : Seen) (w : ℕ) (c : Constant) → slice_get (constants_of s) w ≡ Some c → w < length (uses_of s)
 vertex_within s w c e = let a = slice_get_within (constants_of s) w c e in let b = constants_within s in omega arith
 
 -- ---- a step

@@ -132,14 +132,14 @@ level a b p q e f = (grind (arith, nat_tests), grind (arith, nat_tests), grind (
 last_level : (a b : ℕ) → nat_lt a b ≡ false → nat_lt b a ≡ false → a ≡ b
 last_level a b e f = grind (arith, nat_tests)
 
-same_place : (p q : Place) → is_before p q ≡ false → is_before q p ≡ false → p ≡ q
+pub same_place : (p q : Place) → is_before p q ≡ false → is_before q p ≡ false → p ≡ q
 same_place p q e f =
     let file = level p.file q.file _ _ e f in
     let line = level p.line q.line _ _ file.1 file.2 in
     let column = last_level p.column q.column line.1 line.2 in
     λ i. record { file = file.0 i; line = line.0 i; column = column i }
 
-same_refusal : (r s : Refusal) → r.place ≡ s.place → r.rule ≡ s.rule → r ≡ s
+pub same_refusal : (r s : Refusal) → r.place ≡ s.place → r.rule ≡ s.rule → r ≡ s
 same_refusal r s e f = λ i. record { place = e i; rule = f i }
 
 least_of : (rule : Rule) (xs : List Refusal) (o : Option Refusal) → first_broken xs ≡ o → AreAll rule xs → (r : Refusal) → Member r xs → ((q : Refusal) → Member q xs → is_before q.place r.place ≡ false) → o ≡ Some r

@@ -27,7 +27,3 @@ first_by key item name (x ∷ xs) = if same (key x) name then Some (item x) else
 abbrev pub found_first : {T : Type 0} → Option T → Option T → Option T
 found_first None other = other
 found_first (Some t) other = Some t
-
--- names with what they name
-abbrev pub pairs : {X T : Type 0} → (X → List ℕ) → (X → T) → List X → List (List ℕ × T)
-pairs {X} {T} key item xs = map {B = List ℕ × T} (λ x. (key x, item x)) xs

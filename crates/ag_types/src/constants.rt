@@ -1,9 +1,8 @@
 //! The values of constants.
-ghost use Rattle.std.specs.Prelude.{◌≡◌, true, IfOk, List, Option};
+ghost use Rattle.std.specs.Prelude.{◌≡◌, true, IfOk};
 ghost use Rattle.ag_graph.specs.Circles.{AreCircles};
 ghost use Rattle.ag_types.specs.Constants.{AreKept, is_kept};
 ghost use Rattle.ag_types.specs.Seen.{Seen};
-ghost use Rattle.ag_types.specs.declared.value.Value.{Value};
 ghost use Rattle.ag_types.specs.Uses.{constants_of, uses_of, declared_value, AreValues};
 
 use crate::claims::constant;
@@ -56,10 +55,3 @@ fn declared_value(
         Some(_) => Ok(None),
     }
 }
-
-/// A scope's constants have one list of values.
-pub fn values_are_one(_circles: &Circles)
-    ghost seen: { Seen }
-    requires { AreCircles (uses_of seen) _circles.now.on_circle _circles.now.order }
-    ensures { (vs ws : List (Option Value)) → AreValues seen vs → AreValues seen ws → vs ≡ ws }
-{}

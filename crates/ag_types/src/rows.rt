@@ -3,7 +3,7 @@ ghost use Rattle.std.specs.Prelude.{◌≡◌, [], pos, negsuc, ◌+ℤ◌, ◌-
 ghost use Rattle.std.specs.List.{list_all};
 ghost use Rattle.ag_types.specs.Constants.{is_carried};
 ghost use Rattle.ag_types.specs.NumberFaults.{compared, passes_limits};
-ghost use Rattle.ag_types.specs.RowOrder.{AreParts, AreRows, IsHeld, are_carried, count_of, joined_row};
+ghost use Rattle.ag_types.specs.RowOrder.{AreInOrder, AreParts, AreRows, IsHeld, are_carried, count_of, joined_row};
 ghost use Rattle.ag_types.specs.Rows.{carried_row, constant_row, hidden_row, is_factor, keeps_row, minus, plus, plus_factors, precedes, stream_row, times, times_factor};
 
 use crate::value::{Factor, difference, product, sum};
@@ -78,6 +78,21 @@ impl Linear {
             factors: Vec::new(alloc),
             hidden,
         })
+    }
+
+    /// The factors of streams, in order.
+    pub fn factors(&self) -> &[Factor]
+        ensures value { result.now ≡ self.now.factors }
+        ensures order { AreInOrder self.now.factors }
+    {
+        self.factors.as_slice()
+    }
+
+    /// The constant.
+    pub fn offset(&self) -> i128
+        ensures { result ≡ self.now.constant }
+    {
+        self.constant
     }
 }
 

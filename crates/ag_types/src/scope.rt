@@ -1,19 +1,28 @@
 //! A scope: clauses that break no rule on types, and what they see.
-ghost use Rattle.std.specs.Prelude.{◌≡◌, Err, IfOk, map};
+ghost use Rattle.std.specs.Prelude.{◌≡◌, ◌≤◌, List, Option, Err, IfOk, None, length, map, take};
+ghost use Rattle.std.specs.List.{filter};
 ghost use Rattle.std.specs.Option.{option_copied};
 ghost use Rattle.std.specs.Coded.{codes};
 ghost use Rattle.std.proofs.Props.{props};
+ghost use Rattle.ag_types.specs.ValuedProps.{value_of-prop};
 ghost use Rattle.ag_annex.specs.contracts.terms.Term as term;
 ghost use Rattle.ag_base.specs.declared.place.Refusal.{Refusal};
 ghost use Rattle.ag_base.specs.declared.place.Refused.TheVariants.{Model};
+ghost use Rattle.ag_graph.specs.Circles.{AreCircles};
 ghost use Rattle.ag_types.specs.Answers.{Breaks, IsFirst, IsRefusal, IsSound};
 ghost use Rattle.ag_types.specs.Constants.{AreKept};
+ghost use Rattle.ag_types.specs.ConstantWorth.{AreWorth};
+ghost use Rattle.ag_types.specs.declared.value.Value.{Value};
+ghost use Rattle.ag_types.specs.Numbers.{numbers_from};
 ghost use Rattle.ag_types.specs.Seen.{Seen, library_names, frame_names, names_seen, value_of, node_of};
+ghost use Rattle.ag_types.specs.SumRows.{HaveValues};
+ghost use Rattle.ag_types.specs.Sums.{is_whole, whole_streams};
 ghost use Rattle.ag_types.specs.Types.{IsTyped, IsIllTyped};
-ghost use Rattle.ag_types.specs.Uses.{AreValues, IsCircular};
+ghost use Rattle.ag_types.specs.Uses.{uses_of, AreValues, IsCircular};
 
 use crate::constants::values;
 use crate::faults::first_fault;
+use crate::integers::integers_before;
 use crate::number_clauses::first_number_fault;
 use crate::places::either;
 use crate::sight::Sight;
@@ -24,7 +33,7 @@ use crate::value::Value;
 use ag_aadl::packages::Path;
 use ag_annex::{Clause, NodeDef, Term, Ty, Var};
 use ag_base::{OutOfMemory, Refusal, Refused};
-use ag_graph::circles;
+use ag_graph::{Circles, circles};
 use std::alloc::Global;
 use std::marker::Model;
 
@@ -38,9 +47,12 @@ pub struct Scope<'a> {
     ports: &'a [Var],
     site: Site<'a>,
     values: Vec<Option<Value>>,
+    integers: Vec<usize>,
     ghost sees: { site ≡ names_seen (record { library = library.now; frame = frame.now; body = body.now; ports = ports.now }) } by { Prim.hlevel (props, codes, term.the_row.coded) },
     ghost valued: { AreValues (record { library = library.now; frame = frame.now; body = body.now; ports = ports.now }) values.items } by { Prim.hlevel (props, codes, term.the_row.coded) },
     ghost kept: { AreKept values.items } by { Prim.hlevel (props, codes) },
+    ghost typed: { HaveValues (names_seen (record { library = library.now; frame = frame.now; body = body.now; ports = ports.now })).constants values.items } by { Prim.hlevel (props, codes, term.the_row.coded, value_of-prop) },
+    ghost counted: { integers.items ≡ numbers_from 0 (names_seen (record { library = library.now; frame = frame.now; body = body.now; ports = ports.now })).streams } by { Prim.hlevel (props, codes, term.the_row.coded) },
 }
 
 impl<'a> Model for Scope<'a> {
@@ -85,6 +97,7 @@ impl<'a> Scope<'a> {
                 ports,
                 site: checked.site,
                 values: checked.values,
+                integers: checked.integers,
             }),
         }
     }
@@ -127,6 +140,28 @@ impl<'a> Scope<'a> {
         self.sight().node_of(path)
     }
 
+    /// How many integer streams the clauses see.
+    pub fn integer_streams(&self) -> usize
+        ensures { result ≡ length (whole_streams (names_seen self.now)) }
+    {
+        self.integers_before(self.sight().streams.as_slice().len())
+    }
+
+    // How many integer streams stand before this one among all.
+    pub(crate) fn integers_before(&self, stream: usize) -> usize
+        requires { stream ≤ length (names_seen self.now).streams }
+        ensures { result ≡ length (filter is_whole (take stream (names_seen self.now).streams)) }
+    {
+        self.integers[stream]
+    }
+
+    /// The constants have values, and each is worth what its expression is worth, in every run.
+    pub fn constants_are_worth(&self)
+        ensures { (values : List (Option Value)) × AreWorth self.now values }
+    {
+        let _values = self.values();
+    }
+
     pub(crate) fn sight(&self) -> Sight<'_>
         ensures { result ≡ names_seen self.now }
     {
@@ -137,6 +172,7 @@ impl<'a> Scope<'a> {
     pub(crate) fn values(&self) -> &[Option<Value>]
         ensures values { AreValues self.now result.now }
         ensures kept { AreKept result.now }
+        ensures typed { HaveValues (names_seen self.now).constants result.now }
     {
         self.values.as_slice()
     }
@@ -152,11 +188,22 @@ pub fn type_of(scope: &Scope<'_>, term: &Term) -> Result<Ty, Refusal>
     type_of_term(&scope.sight(), term)
 }
 
-// What an implementation's clauses see, the values of the constants, and the first broken rule.
+/// No two refusals fit one scope, and none fits one that breaks no rule. The circles are those of the scope's
+/// uses, which every graph has.
+pub fn one_refusal(_circles: &Circles)
+    ghost seen: { Seen }
+    requires { AreCircles (uses_of seen) _circles.now.on_circle _circles.now.order }
+    ensures one { (r q : Refusal) → IsRefusal seen r → IsRefusal seen q → r ≡ q }
+    ensures not_both { (r : Refusal) → IsSound seen → IsRefusal seen r → ⊥ }
+{}
+
+// What an implementation's clauses see, the values of the constants, the positions of integer streams, and
+// the first broken rule.
 #[derive(Drop)]
 struct Checked<'a> {
     site: Site<'a>,
     values: Vec<Option<Value>>,
+    integers: Vec<usize>,
     broken: Option<Refusal>,
 }
 
@@ -170,6 +217,8 @@ fn check<'a>(
     ensures site { IfOk result (λ c. c.site ≡ names_seen (record { library = library.now; frame = frame.now; body = body.now; ports = ports.now })) }
     ensures values { IfOk result (λ c. AreValues (record { library = library.now; frame = frame.now; body = body.now; ports = ports.now }) c.values.items) }
     ensures kept { IfOk result (λ c. AreKept c.values.items) }
+    ensures typed { IfOk result (λ c. c.broken ≡ None → HaveValues (names_seen (record { library = library.now; frame = frame.now; body = body.now; ports = ports.now })).constants c.values.items) }
+    ensures counted { IfOk result (λ c. c.integers.items ≡ numbers_from 0 (names_seen (record { library = library.now; frame = frame.now; body = body.now; ports = ports.now })).streams) }
     ensures broken { IfOk result (λ c. IsFirst (Breaks (record { library = library.now; frame = frame.now; body = body.now; ports = ports.now }) c.values.items) c.broken) }
 {
     let sites = Sites::make(alloc, library, frame, body, ports)?;
@@ -185,9 +234,11 @@ fn check<'a>(
         body,
         ports,
     )?;
+    let integers = integers_before(alloc, sites.body.sight().streams.as_slice())?;
     Ok(Checked {
         site: sites.body,
         values,
+        integers,
         broken: either(of_names, either(evaluated.circular, of_numbers)),
     })
 }
@@ -214,6 +265,7 @@ fn evaluate<'s>(
     requires body { sites.now.body ≡ names_seen seen }
     ensures values { IfOk result (λ e. AreValues seen e.values.items) }
     ensures kept { IfOk result (λ e. AreKept e.values.items) }
+    ensures typed { IfOk result (λ e. IsFirst (Breaks seen e.values.items) None → HaveValues (names_seen seen).constants e.values.items) }
     ensures circular { IfOk result (λ e. IsFirst (IsCircular seen) e.circular) }
 {
     let constants = constants(alloc, sites, library, frame, body)?;

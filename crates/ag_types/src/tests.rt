@@ -1,8 +1,9 @@
-use crate::{Scope, type_of};
+use crate::{Scope, is_sum, linear, type_of};
 use ag_aadl::packages::Ident;
 use ag_annex::{Clause, Site, Ty, Var, read_clauses};
 use ag_base::{List, OutOfMemory, Place, Refusal, Refused, Rule, Text};
 use ag_lex::{TokenKind, annex_tokens, file_tokens};
+use ag_stream::problem::{Row, RowTerm};
 use std::alloc::Global;
 use std::process::Abort;
 use std::test::Fail;
@@ -170,6 +171,152 @@ fn refuses_expressions(rt: HostRuntime) -> Result<(), Fail> {
     ];
     for row in &rows {
         expect_refusal(&rt, rt.alloc(), *row)?;
+    }
+    Ok(())
+}
+
+// What `linear` answers for an expression that stands as the others do; none, where it is no sum.
+fn row_of(alloc: Global, expression: &str) -> Result<Option<Result<Row, Refused>>, Fail> {
+    let seen = clauses_of(alloc, 0, Site::Frame, SEEN.as_bytes())
+        .ok()
+        .ok_or("what is seen has clauses")?;
+    let text = format!(in alloc; "{{**assume \"\" : {expression};**}}")?;
+    let clauses = clauses_of(alloc, 0, Site::Frame, text.as_bytes())
+        .ok()
+        .ok_or("the expression is read")?;
+    let ports = ports(alloc).ok().ok_or("ports")?;
+    let scope = Scope::make(alloc, &[], seen.as_slice(), &[], ports.as_slice())
+        .ok()
+        .ok_or("scope")?;
+    match clauses.as_slice() {
+        [Clause::Assume(assume)] => {
+            if is_sum(&scope, &assume.claim) && scope.integer_streams() <= 65536 {
+                Ok(Some(linear(alloc, &scope, &assume.claim)))
+            } else {
+                Ok(None)
+            }
+        }
+        _ => Err("one claim".into()),
+    }
+}
+
+fn expect_row<R: Abort>(rt: &R, alloc: Global, row: (&str, &[RowTerm], i64)) -> Result<(), Fail> {
+    let (expression, terms, constant) = row;
+    match row_of(alloc, expression)? {
+        Some(Ok(answer)) => {
+            assert_eq!(rt; answer.terms.as_slice(), terms, "{expression}");
+            assert_eq!(rt; answer.constant, constant, "{expression}");
+            Ok(())
+        }
+        _ => Err("a row".into()),
+    }
+}
+
+const fn now(stream: u16, factor: i64) -> RowTerm {
+    RowTerm {
+        stream,
+        before: false,
+        factor,
+    }
+}
+
+const fn earlier(stream: u16, factor: i64) -> RowTerm {
+    RowTerm {
+        stream,
+        before: true,
+        factor,
+    }
+}
+
+// The integer streams are `i`, `c.x`, `x` and `y`, from 0 on.
+#[test]
+fn writes_rows(rt: HostRuntime) -> Result<(), Fail> {
+    let rows: [(&str, &[RowTerm], i64); 12] = [
+        ("3", &[], 3),
+        ("N", &[], 3),
+        ("i", &[now(0, 1)], 0),
+        ("x - C.X", &[now(1, -1), now(2, 1)], 0),
+        (
+            "pre(y) + y - 4 * pre(c.x)",
+            &[earlier(1, -4), now(3, 1), earlier(3, 1)],
+            0,
+        ),
+        (
+            "-(x + n * i) - 140737488355328",
+            &[now(0, -3), now(2, -1)],
+            -140737488355328,
+        ),
+        ("x - x + 7", &[], 7),
+        ("0 * x", &[], 0),
+        ("(if t then 2 else 5) * x + 7 mod 4", &[now(2, 2)], 3),
+        ("(-7) div 2 + (-7) mod 2 * x", &[now(2, 1)], -4),
+        ("2147483648 * x", &[now(2, 2147483648)], 0),
+        (
+            "140737488355328 + 140737488355328 - x",
+            &[now(2, -1)],
+            281474976710656,
+        ),
+    ];
+    for row in &rows {
+        expect_row(&rt, rt.alloc(), *row)?;
+    }
+    Ok(())
+}
+
+#[test]
+fn refuses_rows(rt: HostRuntime) -> Result<(), Fail> {
+    let rows = [
+        ("^z + x", Rule::Unknown),
+        ("^b", Rule::Mismatch),
+        ("x + ^b", Rule::Mismatch),
+        ("x ^* y", Rule::NotLinear),
+        ("x + 7 div ^0", Rule::BadDivisor),
+        ("^2147483649 * x", Rule::Coefficient),
+        ("^140737488355328 * 2 + 1 - x", Rule::Coefficient),
+        // A constant keeps the limits of rows too.
+        ("^140737488355328 * 2 + 1", Rule::Coefficient),
+        (
+            "^1024 * 1024 * 1024 * 1024 * 1024 * 1024 * 1024 * x",
+            Rule::Coefficient,
+        ),
+    ];
+    for row in &rows {
+        let (expression, rule) = *row;
+        let (before, rest) = expression.split_once("^").ok_or("a place")?;
+        let whole = format!(in rt.alloc(); "{before}{rest}")?;
+        let column = u32::try_from(before.len() + 16).ok().ok_or("a short row")?;
+        let place = Place {
+            file: 0,
+            line: 1,
+            column,
+        };
+        match row_of(rt.alloc(), whole.as_str())? {
+            Some(Err(Refused::Model(answer))) => {
+                assert_eq!(rt; answer, Refusal { place, rule }, "{expression}");
+            }
+            _ => return Err("a refusal".into()),
+        }
+    }
+    Ok(())
+}
+
+#[test]
+fn tells_sums(rt: HostRuntime) -> Result<(), Fail> {
+    let rows = [
+        "inc(x)",
+        "x -> y",
+        "1 + (1 -> 2)",
+        "if b then x else y",
+        "if b then 1 else 2",
+        "x div 2",
+        "1 + x mod 2",
+        "pre(x + 1)",
+        "pre(n)",
+        "-pre(inc(x))",
+    ];
+    for row in &rows {
+        let expression = *row;
+        assert!(rt; row_of(rt.alloc(), expression)?.is_none(), "{expression}");
     }
     Ok(())
 }

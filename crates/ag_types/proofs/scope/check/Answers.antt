@@ -20,3 +20,8 @@ returns-clause-broken c =
     let rest = first_of_two (IsCircular s) (Contains (number_faults s values)) c.in_ok-evaluated.evaluated.circular c.in_ok-of_numbers.of_numbers c.in_ok-evaluated.ensures.circular numbers in
     let all = first_of_two (Contains (faults_of s)) (λ q. IsCircular s q ⊎ Contains (number_faults s values) q) c.in_ok-of_names.of_names _ names (subst (IsFirst (λ q. IsCircular s q ⊎ Contains (number_faults s values) q)) (sym c.either.ensures) rest) in
     subst (IsFirst (Breaks s values)) (sym c.either-2.ensures) all
+
+pub returns-clause-typed : goal.returns-clause-typed
+returns-clause-typed c = λ e.
+    let s : Seen = record { library = c.args.library.now; frame = c.args.frame.now; body = c.args.body.now; ports = c.args.ports.now } in
+    c.in_ok-evaluated.ensures.typed (subst (IsFirst (Breaks s c.in_ok-evaluated.evaluated.values.items)) e (returns-clause-broken c))

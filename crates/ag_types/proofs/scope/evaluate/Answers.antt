@@ -7,6 +7,7 @@ use Rattle.ag_annex.specs.declared.clauses.Var.{Var}
 use Rattle.ag_graph.specs.Circles.{AreCircles}
 use Rattle.ag_types.specs.Seen.{Seen, Names, library_names, frame_names, names_seen}
 use Rattle.ag_types.specs.Uses.{Constant, constant_in, constants_of}
+use Rattle.ag_types.proofs.ConstantsTyped.{constants_are_typed}
 use Rattle.ag_types.proofs.scope.evaluate.Goals as goal
 
 -- what is declared at each site with the names of that site
@@ -35,3 +36,9 @@ first_circle-circular-requires g c = (
     subst (λ (graph : List (List ℕ)). AreCircles graph c.in_ok-circles.circles.on_circle c.in_ok-circles.circles.order) c.in_ok-uses.ensures.uses c.in_ok-circles.ensures,
   ),
 )
+
+pub returns-clause-typed : goal.returns-clause-typed
+returns-clause-typed g c =
+    constants_are_typed g.seen c.in_ok-values.values.items c.in_ok-circles.circles.on_circle c.in_ok-circles.circles.order
+    (subst (λ (graph : List (List ℕ)). AreCircles graph c.in_ok-circles.circles.on_circle c.in_ok-circles.circles.order) c.in_ok-uses.ensures.uses c.in_ok-circles.ensures)
+    c.in_ok-values.ensures.values c.in_ok-values.ensures.kept
