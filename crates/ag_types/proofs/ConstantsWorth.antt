@@ -55,6 +55,7 @@ value_is s values valued typed k c e =
 pub are_worth : (s : Seen) (values : List (Option Value)) → AreValues s values → HaveValues (names_seen s).constants values → AreWorth s values
 are_worth s values valued typed = record {
   valued = valued;
+  there = typed_at s values typed;
   worth_of = λ k c e r names of run at.
       let agrees : Agrees (exact_value r.names r.values c.term) (worth r run c.term at) = exact_agrees r run c.term at in
       let exact : slice_index_or values k None ≡ exact_value r.names r.values c.term = rw (names, of) (value_is s values valued typed k c e) in

@@ -33,7 +33,7 @@ mod table;
 mod twice;
 mod types;
 mod uses;
-pub mod value;
+mod value;
 
 pub use scope::{Scope, one_refusal, type_of};
 pub use sum_rows::{is_sum, linear};

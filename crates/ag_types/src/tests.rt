@@ -142,6 +142,7 @@ fn refuses_expressions(rt: HostRuntime) -> Result<(), Fail> {
         ("not (^x + 1)", Rule::Mismatch),
         ("^b + x", Rule::Mismatch),
         ("x * ^b", Rule::Mismatch),
+        ("3 * ^b", Rule::Mismatch),
         ("x < ^b", Rule::Mismatch),
         ("^x and b", Rule::Mismatch),
         ("b <=> ^x", Rule::Mismatch),
@@ -212,18 +213,10 @@ fn expect_row<R: Abort>(rt: &R, alloc: Global, row: (&str, &[RowTerm], i64)) -> 
     }
 }
 
-const fn now(stream: u16, factor: i64) -> RowTerm {
+const fn term(stream: u16, before: bool, factor: i64) -> RowTerm {
     RowTerm {
         stream,
-        before: false,
-        factor,
-    }
-}
-
-const fn earlier(stream: u16, factor: i64) -> RowTerm {
-    RowTerm {
-        stream,
-        before: true,
+        before,
         factor,
     }
 }
@@ -234,26 +227,30 @@ fn writes_rows(rt: HostRuntime) -> Result<(), Fail> {
     let rows: [(&str, &[RowTerm], i64); 12] = [
         ("3", &[], 3),
         ("N", &[], 3),
-        ("i", &[now(0, 1)], 0),
-        ("x - C.X", &[now(1, -1), now(2, 1)], 0),
+        ("i", &[term(0, false, 1)], 0),
+        ("x - C.X", &[term(1, false, -1), term(2, false, 1)], 0),
         (
             "pre(y) + y - 4 * pre(c.x)",
-            &[earlier(1, -4), now(3, 1), earlier(3, 1)],
+            &[term(1, true, -4), term(3, false, 1), term(3, true, 1)],
             0,
         ),
         (
             "-(x + n * i) - 140737488355328",
-            &[now(0, -3), now(2, -1)],
+            &[term(0, false, -3), term(2, false, -1)],
             -140737488355328,
         ),
         ("x - x + 7", &[], 7),
         ("0 * x", &[], 0),
-        ("(if t then 2 else 5) * x + 7 mod 4", &[now(2, 2)], 3),
-        ("(-7) div 2 + (-7) mod 2 * x", &[now(2, 1)], -4),
-        ("2147483648 * x", &[now(2, 2147483648)], 0),
+        (
+            "(if t then 2 else 5) * x + 7 mod 4",
+            &[term(2, false, 2)],
+            3,
+        ),
+        ("(-7) div 2 + (-7) mod 2 * x", &[term(2, false, 1)], -4),
+        ("2147483648 * x", &[term(2, false, 2147483648)], 0),
         (
             "140737488355328 + 140737488355328 - x",
-            &[now(2, -1)],
+            &[term(2, false, -1)],
             281474976710656,
         ),
     ];
@@ -408,6 +405,12 @@ fn refuses_clauses(rt: HostRuntime) -> Result<(), Fail> {
         ),
         // Names are declared once, whatever they name and wherever they are seen together.
         (
+            "node f(x : int) returns (y : int); var ^x : int; let y = x; x = 1; tel;",
+            "",
+            "",
+            Rule::Twice,
+        ),
+        (
             "const n : int = 3; const ^N : int = 4;",
             "",
             "",
@@ -519,6 +522,18 @@ fn refuses_clauses(rt: HostRuntime) -> Result<(), Fail> {
         ("", "const k : int = ^i;", "", Rule::Mismatch),
         ("const k : int = ^pre(3);", "", "", Rule::Mismatch),
         ("const k : int = ^3 -> 4;", "", "", Rule::Mismatch),
+        (
+            "const k : int = ^f(1); node f(x : int) returns (y : int); let y = x; tel;",
+            "",
+            "",
+            Rule::Mismatch,
+        ),
+        (
+            "",
+            "eq b : bool; guarantee \"\" : 3 * ^b > 0;",
+            "",
+            Rule::Mismatch,
+        ),
         // Several names.
         ("", "eq x : int, y : int = ^1;", "", Rule::Arity),
         (
@@ -591,6 +606,24 @@ fn refuses_clauses(rt: HostRuntime) -> Result<(), Fail> {
         ),
         // Products and divisors.
         ("", "guarantee \"\" : i ^* i > 0;", "", Rule::NotLinear),
+        (
+            "",
+            "eq b : bool; guarantee \"\" : i ^* b > 0;",
+            "",
+            Rule::NotLinear,
+        ),
+        (
+            "node f(x : int) returns (y : int); let y = x ^* x; tel;",
+            "",
+            "",
+            Rule::NotLinear,
+        ),
+        (
+            "node f(x : int) returns (y : int); let y = 3 mod ^x; tel;",
+            "",
+            "",
+            Rule::BadDivisor,
+        ),
         ("", "guarantee \"\" : i div ^0 = 1;", "", Rule::BadDivisor),
         ("", "guarantee \"\" : 7 mod ^i = 1;", "", Rule::BadDivisor),
         (
@@ -685,6 +718,31 @@ fn refuses_clauses(rt: HostRuntime) -> Result<(), Fail> {
             "assign i = 0 -> ^140737488355328 * 4;",
             Rule::Coefficient,
         ),
+        (
+            "",
+            "eq b : bool; eq x : int = if b then 1 else ^140737488355328 * 4;",
+            "",
+            Rule::Coefficient,
+        ),
+        (
+            "node f(x : int) returns (y : int); let y = x; tel;",
+            "eq x : int = f(^140737488355328 * 4);",
+            "",
+            Rule::Coefficient,
+        ),
+        (
+            "node f(x : int) returns (y : int); let y = ^140737488355328 * 4; tel;",
+            "",
+            "",
+            Rule::Coefficient,
+        ),
+        // A constant stands for its value alone, also as a quotient.
+        (
+            "",
+            "guarantee \"\" : (140737488355328 * 4) div 4 > i;",
+            "",
+            Rule::Coefficient,
+        ),
         // Of several the first in the text, and at one place the first in the order of the rules.
         (
             "const n : int = ^true;",
@@ -703,4 +761,38 @@ fn refuses_clauses(rt: HostRuntime) -> Result<(), Fail> {
         expect_fault(&rt, rt.alloc(), row)?;
     }
     Ok(())
+}
+
+// Streams `x0`, `x1` and so on, and one more that is the sum of so many, in brackets of a hundred.
+fn stream_of_sum(alloc: Global, terms: usize) -> Result<String, Fail> {
+    let mut streams = String::new(alloc);
+    let mut sum = String::new(alloc);
+    for term in 0..terms {
+        let stream = format!(in alloc; "eq x{term} : int;")?;
+        streams.push_str(stream.as_str())?;
+        let joined = if term == 0 {
+            "("
+        } else if term % 100 == 0 {
+            ") + ("
+        } else {
+            " + "
+        };
+        let next = format!(in alloc; "{joined}x{term}")?;
+        sum.push_str(next.as_str())?;
+    }
+    Ok(format!(in alloc; "{streams}eq t : int = {sum});")?)
+}
+
+#[test]
+fn counts_terms(rt: HostRuntime) -> Result<(), Fail> {
+    let most = stream_of_sum(rt.alloc(), 1024)?;
+    assert_eq!(rt; fault_of(rt.alloc(), "", most.as_str(), "")?, None);
+    let many = stream_of_sum(rt.alloc(), 1025)?;
+    match fault_of(rt.alloc(), "", many.as_str(), "")? {
+        Some(refusal) => {
+            assert_eq!(rt; refusal.rule, Rule::Coefficient);
+            Ok(())
+        }
+        None => Err("a refusal".into()),
+    }
 }
