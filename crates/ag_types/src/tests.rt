@@ -566,6 +566,29 @@ fn refuses_clauses(rt: HostRuntime) -> Result<(), Fail> {
             "",
             Rule::Arity,
         ),
+        // Of several the first in the text, and at one place the first in the order of the rules.
+        (
+            "const n : int = ^true;",
+            "guarantee \"\" : 1;",
+            "",
+            Rule::Mismatch,
+        ),
+        (
+            "",
+            "eq e : int = 0;",
+            "assign ^e = 1; eq e : int;",
+            Rule::TwoSources,
+        ),
+    ];
+    for row in rows {
+        expect_fault(&rt, rt.alloc(), row)?;
+    }
+    Ok(())
+}
+
+#[test]
+fn refuses_circles_and_numbers(rt: HostRuntime) -> Result<(), Fail> {
+    let rows = [
         // No constant and no node uses itself.
         ("const ^a : int = a + 1;", "", "", Rule::NodeRecursion),
         (
@@ -742,19 +765,6 @@ fn refuses_clauses(rt: HostRuntime) -> Result<(), Fail> {
             "guarantee \"\" : (140737488355328 * 4) div 4 > i;",
             "",
             Rule::Coefficient,
-        ),
-        // Of several the first in the text, and at one place the first in the order of the rules.
-        (
-            "const n : int = ^true;",
-            "guarantee \"\" : 1;",
-            "",
-            Rule::Mismatch,
-        ),
-        (
-            "",
-            "eq e : int = 0;",
-            "assign ^e = 1; eq e : int;",
-            Rule::TwoSources,
         ),
     ];
     for row in rows {
