@@ -234,10 +234,10 @@ pub sum_is_worth : (r : Reading) (run : Run) (t : Term) (row : Linear) (at : ℕ
 sum_is_worth r run t row at s e = subst (λ (o : Option Linear). AgreesRow r run at o (worth r run t at)) e (agrees-sum r run t at s)
 
 -- its streams are integers, whatever run there is
-pub sum_has_whole_streams : (names : Names) (values : List (Option Value)) (t : Term) (row : Linear) → is_sum names t ≡ true →
-    row_in names values t ≡ Some row → (row.hidden ≡ []) × AreWholeStreams names.streams row.factors
-sum_has_whole_streams names values t row s e =
+pub sum_has_whole_streams : (names : Names) (values : List (Option Value)) (t : Term) (linear : Linear) → is_sum names t ≡ true →
+    row_in names values t ≡ Some linear → (linear.hidden ≡ []) × AreWholeStreams names.streams linear.factors
+sum_has_whole_streams names values t linear s e =
     let r : Reading = record { component = []; calls = []; names = names; values = values } in
     let nothing : Run = λ at stream. pos 0 in
-    let worth_of : IsWorth r nothing 0 row (worth r nothing t 0) = sum_is_worth r nothing t row 0 s e in
+    let worth_of : IsWorth r nothing 0 linear (worth r nothing t 0) = sum_is_worth r nothing t linear 0 s e in
     (worth_of.declared, worth_of.whole)

@@ -49,8 +49,11 @@ fn ports(alloc: Global) -> Result<List<Var>, OutOfMemory> {
     Ok(ports)
 }
 
-// What is answered for an expression that stands behind `assume "" : `, its first byte in column 16.
-fn answered(alloc: Global, expression: &str) -> Result<Result<Ty, Refusal>, Fail> {
+// The type of an expression that stands behind `assume "" : `, its first byte in column 16, and its row where it is a sum.
+fn answered(
+    alloc: Global,
+    expression: &str,
+) -> Result<(Result<Ty, Refusal>, Option<Result<Row, Refused>>), Fail> {
     let seen = clauses_of(alloc, 0, Site::Frame, SEEN.as_bytes())
         .ok()
         .ok_or("what is seen has clauses")?;
@@ -63,21 +66,21 @@ fn answered(alloc: Global, expression: &str) -> Result<Result<Ty, Refusal>, Fail
         .ok()
         .ok_or("scope")?;
     match clauses.as_slice() {
-        [Clause::Assume(assume)] => Ok(type_of(&scope, &assume.claim)),
+        [Clause::Assume(assume)] => {
+            let claim = &assume.claim;
+            let row = if is_sum(&scope, claim) && scope.integer_streams() <= 65536 {
+                Some(linear(alloc, &scope, claim))
+            } else {
+                None
+            };
+            Ok((type_of(&scope, claim), row))
+        }
         _ => Err("one claim".into()),
     }
 }
 
-fn expect_type<R: Abort>(rt: &R, alloc: Global, row: (&str, Ty)) -> Result<(), Fail> {
-    let (expression, ty) = row;
-    let answer = answered(alloc, expression)?;
-    assert_eq!(rt; answer, Ok(ty), "{expression}");
-    Ok(())
-}
-
-// Checks that the rule is broken where the row has its `^`, which isn't part of the expression.
-fn expect_refusal<R: Abort>(rt: &R, alloc: Global, row: (&str, Rule)) -> Result<(), Fail> {
-    let (expression, rule) = row;
+// The expression without its `^`, and the place of it where it stands as the others do.
+fn placed(alloc: Global, expression: &str) -> Result<(String, Place), Fail> {
     let (before, rest) = expression.split_once("^").ok_or("a place")?;
     let whole = format!(in alloc; "{before}{rest}")?;
     let column = u32::try_from(before.len() + 16).ok().ok_or("a short row")?;
@@ -86,7 +89,21 @@ fn expect_refusal<R: Abort>(rt: &R, alloc: Global, row: (&str, Rule)) -> Result<
         line: 1,
         column,
     };
-    let answer = answered(alloc, whole.as_str())?;
+    Ok((whole, place))
+}
+
+fn expect_type<R: Abort>(rt: &R, alloc: Global, row: (&str, Ty)) -> Result<(), Fail> {
+    let (expression, ty) = row;
+    let (answer, _) = answered(alloc, expression)?;
+    assert_eq!(rt; answer, Ok(ty), "{expression}");
+    Ok(())
+}
+
+// Checks that the rule is broken where the row has its `^`, which isn't part of the expression.
+fn expect_refusal<R: Abort>(rt: &R, alloc: Global, row: (&str, Rule)) -> Result<(), Fail> {
+    let (expression, rule) = row;
+    let (whole, place) = placed(alloc, expression)?;
+    let (answer, _) = answered(alloc, whole.as_str())?;
     assert_eq!(rt; answer, Err(Refusal { place, rule }), "{expression}");
     Ok(())
 }
@@ -176,35 +193,10 @@ fn refuses_expressions(rt: HostRuntime) -> Result<(), Fail> {
     Ok(())
 }
 
-// What `linear` answers for an expression that stands as the others do; none, where it is no sum.
-fn row_of(alloc: Global, expression: &str) -> Result<Option<Result<Row, Refused>>, Fail> {
-    let seen = clauses_of(alloc, 0, Site::Frame, SEEN.as_bytes())
-        .ok()
-        .ok_or("what is seen has clauses")?;
-    let text = format!(in alloc; "{{**assume \"\" : {expression};**}}")?;
-    let clauses = clauses_of(alloc, 0, Site::Frame, text.as_bytes())
-        .ok()
-        .ok_or("the expression is read")?;
-    let ports = ports(alloc).ok().ok_or("ports")?;
-    let scope = Scope::make(alloc, &[], seen.as_slice(), &[], ports.as_slice())
-        .ok()
-        .ok_or("scope")?;
-    match clauses.as_slice() {
-        [Clause::Assume(assume)] => {
-            if is_sum(&scope, &assume.claim) && scope.integer_streams() <= 65536 {
-                Ok(Some(linear(alloc, &scope, &assume.claim)))
-            } else {
-                Ok(None)
-            }
-        }
-        _ => Err("one claim".into()),
-    }
-}
-
 fn expect_row<R: Abort>(rt: &R, alloc: Global, row: (&str, &[RowTerm], i64)) -> Result<(), Fail> {
     let (expression, terms, constant) = row;
-    match row_of(alloc, expression)? {
-        Some(Ok(answer)) => {
+    match answered(alloc, expression)? {
+        (_, Some(Ok(answer))) => {
             assert_eq!(rt; answer.terms.as_slice(), terms, "{expression}");
             assert_eq!(rt; answer.constant, constant, "{expression}");
             Ok(())
@@ -279,16 +271,9 @@ fn refuses_rows(rt: HostRuntime) -> Result<(), Fail> {
     ];
     for row in &rows {
         let (expression, rule) = *row;
-        let (before, rest) = expression.split_once("^").ok_or("a place")?;
-        let whole = format!(in rt.alloc(); "{before}{rest}")?;
-        let column = u32::try_from(before.len() + 16).ok().ok_or("a short row")?;
-        let place = Place {
-            file: 0,
-            line: 1,
-            column,
-        };
-        match row_of(rt.alloc(), whole.as_str())? {
-            Some(Err(Refused::Model(answer))) => {
+        let (whole, place) = placed(rt.alloc(), expression)?;
+        match answered(rt.alloc(), whole.as_str())? {
+            (_, Some(Err(Refused::Model(answer)))) => {
                 assert_eq!(rt; answer, Refusal { place, rule }, "{expression}");
             }
             _ => return Err("a refusal".into()),
@@ -313,7 +298,8 @@ fn tells_sums(rt: HostRuntime) -> Result<(), Fail> {
     ];
     for row in &rows {
         let expression = *row;
-        assert!(rt; row_of(rt.alloc(), expression)?.is_none(), "{expression}");
+        let (_, row) = answered(rt.alloc(), expression)?;
+        assert!(rt; row.is_none(), "{expression}");
     }
     Ok(())
 }
