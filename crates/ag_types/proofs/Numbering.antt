@@ -54,14 +54,8 @@ carried_twice (Some (value.Truth b)) = refl
 carried_choice : (test chosen other : Option Value) → carried chosen ≡ chosen → carried other ≡ other → carried (value_of_choice test chosen other) ≡ value_of_choice test chosen other
 carried_choice None chosen other e f = refl
 carried_choice (Some (value.Whole z)) chosen other e f = refl
-carried_choice (Some (value.Truth b)) None other e f = refl
-carried_choice (Some (value.Truth b)) (Some (value.Whole c)) None e f = refl
-carried_choice (Some (value.Truth b)) (Some (value.Whole c)) (Some (value.Truth o)) e f = refl
-carried_choice (Some (value.Truth true)) (Some (value.Whole c)) (Some (value.Whole o)) e f = e
-carried_choice (Some (value.Truth false)) (Some (value.Whole c)) (Some (value.Whole o)) e f = f
-carried_choice (Some (value.Truth b)) (Some (value.Truth c)) None e f = refl
-carried_choice (Some (value.Truth b)) (Some (value.Truth c)) (Some (value.Whole o)) e f = refl
-carried_choice (Some (value.Truth b)) (Some (value.Truth c)) (Some (value.Truth o)) e f = refl
+carried_choice (Some (value.Truth true)) chosen other e f = e
+carried_choice (Some (value.Truth false)) chosen other e f = f
 
 -- ---- an expression that is closed
 

@@ -109,9 +109,12 @@ divisor_is_there (pos zero) z e = cc
 divisor_is_there (pos (suc n)) z e = let other : (suc n == 0) ≡ false = grind (arith, nat_tests) in rw other tt
 divisor_is_there (negsuc n) z e = let other : (suc n == 0) ≡ false = grind (arith, nat_tests) in rw other tt
 
+taken_of : (ty : Ty) (b : Bool) (p q : Option Value) → IsValueOf ty p → IsValueOf ty q → IsValueOf ty (value_of_choice (Some (value.Truth b)) p q)
+taken_of ty true p q i j = i
+taken_of ty false p q i j = j
+
 pub choice_of : (ty : Ty) (o p q : Option Value) → IsValueOf Boolean o → IsValueOf ty p → IsValueOf ty q → IsValueOf ty (value_of_choice o p q)
-choice_of Int o p q h i j = let b = truth_of o h in let x = whole_of p i in let y = whole_of q j in rw (b.1, x.1, y.1) tt
-choice_of Boolean o p q h i j = let b = truth_of o h in let x = truth_of p i in let y = truth_of q j in rw (b.1, x.1, y.1) tt
+choice_of ty o p q h i j = let b = truth_of o h in rw b.1 (taken_of ty b.0 p q i j)
 
 -- ---- operators, by the types of their operands
 

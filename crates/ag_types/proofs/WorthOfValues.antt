@@ -129,27 +129,16 @@ arrow_agrees (Some (value.Truth x)) None z = tt
 arrow_agrees (Some (value.Truth x)) (Some (value.Whole y)) z = tt
 arrow_agrees (Some (value.Truth x)) (Some (value.Truth y)) z = tt
 
-chosen_whole : (b : Bool) (x y a b' : ℤ) → x ≡ a → y ≡ b' → number (Some (value.Whole (if b then x else y))) ≡ (if b then a else b')
-chosen_whole true x y a b' e f = e
-chosen_whole false x y a b' e f = f
-
-chosen_truth : (b x y : Bool) (a b' : ℤ) → truth x ≡ a → truth y ≡ b' → number (Some (value.Truth (if b then x else y))) ≡ (if b then a else b')
-chosen_truth true x y a b' e f = e
-chosen_truth false x y a b' e f = f
-
-by_test : (b : Bool) (t z a c : ℤ) → truth b ≡ t → z ≡ (if b then a else c) → z ≡ (if is_true t then a else c)
-by_test b t z a c e h = h ∙ ap (λ (d : Bool). if d then a else c) (sym (true_of_truth b) ∙ ap is_true e)
+taken_agrees : (b : Bool) (p q : Option Value) (a c : ℤ) → Agrees p a → Agrees q c → Agrees (value_of_choice (Some (value.Truth b)) p q) (if b then a else c)
+taken_agrees true p q a c i j = i
+taken_agrees false p q a c i j = j
 
 choice_agrees : (o p q : Option Value) (t a c : ℤ) → Agrees o t → Agrees p a → Agrees q c → Agrees (value_of_choice o p q) (if is_true t then a else c)
 choice_agrees None p q t a c h i j = tt
 choice_agrees (Some (value.Whole x)) p q t a c h i j = tt
-choice_agrees (Some (value.Truth b)) None q t a c h i j = tt
-choice_agrees (Some (value.Truth b)) (Some (value.Whole x)) None t a c h i j = tt
-choice_agrees (Some (value.Truth b)) (Some (value.Whole x)) (Some (value.Whole y)) t a c h i j = by_test b t _ a c h (chosen_whole b x y a c i j)
-choice_agrees (Some (value.Truth b)) (Some (value.Whole x)) (Some (value.Truth y)) t a c h i j = tt
-choice_agrees (Some (value.Truth b)) (Some (value.Truth x)) None t a c h i j = tt
-choice_agrees (Some (value.Truth b)) (Some (value.Truth x)) (Some (value.Whole y)) t a c h i j = tt
-choice_agrees (Some (value.Truth b)) (Some (value.Truth x)) (Some (value.Truth y)) t a c h i j = by_test b t _ a c h (chosen_truth b x y a c i j)
+choice_agrees (Some (value.Truth b)) p q t a c h i j =
+    let same : is_true t ≡ b = sym (ap is_true h) ∙ true_of_truth b in
+    subst (λ (d : Bool). Agrees (value_of_choice (Some (value.Truth b)) p q) (if d then a else c)) (sym same) (taken_agrees b p q a c i j)
 
 -- ---- expressions
 

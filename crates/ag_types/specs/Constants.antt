@@ -31,7 +31,7 @@ is_varying names (Choice' place _ (more_of-Term test end_of-Term) _ (more_of-Ter
     is_varying names test || (is_varying names chosen || is_varying names other)
 is_varying names (Call' path _ args) = true
 
--- ---- values; an expression has none where an operand has none, or one of the wrong kind, or a number of more than 128 bits
+-- ---- values; an expression has none where an operand that it takes has none, or one of the wrong kind, or a number of more than 128 bits
 
 -- a number of 128 bits
 abbrev pub is_carried : ℤ → Bool
@@ -104,10 +104,9 @@ value_of_binary op (Some (value.Whole a)) (Some (value.Whole b)) = value_of_whol
 value_of_binary op (Some (value.Truth a)) (Some (value.Truth b)) = value_of_truths op a b
 value_of_binary op _ _ = None
 
--- both branches have a value, also the one that isn't taken
+-- the value of the branch that is taken, whatever the other one is
 abbrev pub value_of_choice : Option Value → Option Value → Option Value → Option Value
-value_of_choice (Some (value.Truth test)) (Some (value.Whole chosen)) (Some (value.Whole other)) = Some (value.Whole (if test then chosen else other))
-value_of_choice (Some (value.Truth test)) (Some (value.Truth chosen)) (Some (value.Truth other)) = Some (value.Truth (if test then chosen else other))
+value_of_choice (Some (value.Truth test)) chosen other = if test then chosen else other
 value_of_choice _ _ _ = None
 
 -- the exact value by the operands' values; the constants that are seen have these values

@@ -62,13 +62,9 @@ pub fn binary_value(op: Binary, left: Option<Value>, right: Option<Value>) -> Va
 pub fn choice_value(test: Option<Value>, yes: Option<Value>, no: Option<Value>) -> Option<Value>
     ensures { result ≡ value_of_choice test yes no }
 {
-    match (test, yes, no) {
-        (Some(Value::Truth(test)), Some(Value::Whole(yes)), Some(Value::Whole(no))) => {
-            Some(Value::Whole(if test { yes } else { no }))
-        }
-        (Some(Value::Truth(test)), Some(Value::Truth(yes)), Some(Value::Truth(no))) => {
-            Some(Value::Truth(if test { yes } else { no }))
-        }
+    match test {
+        Some(Value::Truth(true)) => yes,
+        Some(Value::Truth(false)) => no,
         _ => None,
     }
 }
