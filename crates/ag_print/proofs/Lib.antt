@@ -19,6 +19,7 @@ pub mod RereadingAgain
 pub mod RereadingPrintable
 pub mod RereadingWhole
 pub mod RereadingClauses
+pub mod RereadingShallow
 pub mod Writing
 pub mod AnnexesRead
 pub mod Lists

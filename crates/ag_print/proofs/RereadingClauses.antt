@@ -48,12 +48,12 @@ AreOfFile = (file : ℕ) (bytes : List ℕ) (tokens : List Token) (packages : Li
 -- ---- one annex
 
 -- an annex with these clauses' text between its marks, and where it stands
-record Placed (bytes : List ℕ) (t : Token) (clauses : List Clause) : Type 0 where
-  before : List ℕ
-  after : List ℕ
-  whole : around before clauses after ≡ bytes
-  front : bytes_before bytes t ≡ before
-  inside : bytes_inside bytes t ≡ inside_text clauses
+pub record Placed (bytes : List ℕ) (t : Token) (clauses : List Clause) : Type 0 where
+  pub before : List ℕ
+  pub after : List ℕ
+  pub whole : around before clauses after ≡ bytes
+  pub front : bytes_before bytes t ≡ before
+  pub inside : bytes_inside bytes t ≡ inside_text clauses
 
 regroup : (front inside after : List ℕ) → (front ++ codes "{**") ++ (inside ++ (codes "**}" ++ after)) ≡ front ++ ((codes "{**" ++ (inside ++ codes "**}")) ++ after)
 regroup front inside after = simp append_assoc
@@ -74,7 +74,7 @@ placed_at bytes front inside after start end clauses same s e parts =
       two (λ (n m : ℕ). slice_range bytes n m) first last ∙ stands_at bytes before text (codes "**}" ++ after) whole,
     )
 
-placed : TokensStand → (bytes : List ℕ) (t : Token) (clauses : List Clause) → IsAnnexOf bytes t → own bytes t ≡ annex_bytes clauses → Placed bytes t clauses
+pub placed : TokensStand → (bytes : List ℕ) (t : Token) (clauses : List Clause) → IsAnnexOf bytes t → own bytes t ≡ annex_bytes clauses → Placed bytes t clauses
 placed stand bytes t clauses a e =
     let s = stand Aadl a.file [] bytes a.tokens t a.read a.among in
     let start : t.start ≡ length s.front = ap (λ (z : Token). z.start) s.is in
@@ -122,13 +122,16 @@ site_same (item.Frame f) = refl
 site_same (item.Body b) = refl
 site_same (item.Library t) = refl
 
+-- declarations that are the same have annexes of one site
+pub same_site : (j i : Item) → bare_item j ≡ bare_item i → item_site i ≡ item_site j
+same_site j i same = sym (sym (site_same j) ∙ ap item_site same ∙ site_same i)
+
 item_stated : ClausesReread → TokensStand → (bytes : List ℕ) (j i : Item) (clauses : List Clause) → item_texts bytes j ≡ expected (is_any (item_annexes i)) clauses → bare_item j ≡ bare_item i → ItemMayState i clauses → AreShallow clauses
     → AllByRecursion (IsOneOf bytes) (annexes_of_item j) → (found : List Clause) × ItemStates bytes j found × SameClauses found clauses
 item_stated reread stand bytes j i clauses e same may shallow of_file =
-    let at : item_site i ≡ item_site j = sym (sym (site_same j) ∙ ap item_site same ∙ site_same i) in
-    annexes_stated reread stand bytes (item_site j) (item_annexes j) (item_annexes i) clauses e may.none (subst (λ (z : Site). MayBePrinted z clauses) at may.printable) shallow of_file
+    annexes_stated reread stand bytes (item_site j) (item_annexes j) (item_annexes i) clauses e may.none (subst (λ (z : Site). MayBePrinted z clauses) (same_site j i same) may.printable) shallow of_file
 
-in_two : {A : Type 0} (P : A → Type 0) (xs ys : List A) → AllByRecursion P (xs ++ ys) → AllByRecursion P xs × AllByRecursion P ys
+pub in_two : {A : Type 0} (P : A → Type 0) (xs ys : List A) → AllByRecursion P (xs ++ ys) → AllByRecursion P xs × AllByRecursion P ys
 in_two P [] ys all = (tt, all)
 in_two P (x ∷ xs) ys all =
     let rest = in_two P xs ys all.1 in

@@ -1,11 +1,14 @@
 //! What canonical text declares.
-ghost use Rattle.std.specs.Prelude.{◌≡◌, ℕ, List, IsTrue};
+ghost use Rattle.std.specs.Prelude.{◌≡◌, ℕ, List, [], IsTrue};
 ghost use Rattle.ag_grammar.specs.declared.grammar.Step.{Step};
+ghost use Rattle.ag_lex.specs.declared.token.Language.TheVariants.{Aadl};
 ghost use Rattle.ag_lex.specs.declared.token.Token.{Token};
+ghost use Rattle.ag_lex.specs.Answers.{AreKept};
 ghost use Rattle.ag_aadl.specs.declared.packages.Package.{Package};
+ghost use Rattle.ag_aadl.specs.Files.{IsFile};
 ghost use Rattle.ag_aadl.specs.Marked.{marked};
 ghost use Rattle.ag_aadl.specs.Words.{terminals_of};
-ghost use Rattle.ag_print.specs.Annexes.{Stated};
+ghost use Rattle.ag_print.specs.Annexes.{Stated, PackagesState};
 ghost use Rattle.ag_print.specs.Canonical.{canonical_text};
 ghost use Rattle.ag_print.specs.Printable.{are_printable, StatedMayBePrinted};
 ghost use Rattle.ag_print.specs.Printed.{AllShallow};
@@ -31,15 +34,19 @@ pub fn canonical_rereads()
     ag_unparse::one_text();
 }
 
-/// The annexes in it state the same clauses, if no level of their text passes the limit.
+/// The annexes in it state the same clauses, if no level of their text passes the limit. Where one does,
+/// not all of them state clauses.
 pub fn annexes_reread()
-    ensures { (file : ℕ) (packages : List Package) (stated : Stated) → IsTrue (are_printable packages) → StatedMayBePrinted packages stated → AllShallow stated → AreStatedAgain file packages stated }
+    ensures read { (file : ℕ) (packages : List Package) (stated : Stated) → IsTrue (are_printable packages) → StatedMayBePrinted packages stated → AllShallow stated → AreStatedAgain file packages stated }
+    ensures shallow { (file : ℕ) (packages : List Package) (stated : Stated) (tokens : List Token) (found : List Package) (found_stated : Stated) → IsTrue (are_printable packages) → StatedMayBePrinted packages stated → AreKept Aadl file [] (canonical_text packages stated) tokens → IsFile (canonical_text packages stated) tokens found → PackagesState (canonical_text packages stated) found found_stated → AllShallow stated }
 {
     canonical_spells();
     files_are_printable();
     ag_unparse::one_text();
     ag_unparse::clauses_reread();
     ag_lex::tokens_stand();
+    ag_lex::one_reading();
+    ag_aadl::one_reading();
 }
 
 /// Packages that are the same, have annexes at the same declarations and state the same have one canonical text,

@@ -14,8 +14,8 @@ use ag_unparse::write_clauses;
 use std::alloc::Global;
 use std::marker::Model;
 
-/// A text that grows by words and ends of lines. After an error a space may stand at its end that no
-/// word follows.
+/// A text that grows by words and ends of lines. After an error a part of what was to be written may
+/// stand at its end.
 #[derive(Drop)]
 pub struct Writer {
     text: String,

@@ -23,11 +23,13 @@ pub mod MeaningClauses
 pub mod MeaningNodes
 pub mod MeaningSites
 pub mod MeaningWhole
+pub mod ShallowTerms
 pub mod SpellsWords
 pub mod SpellsTerminals
 pub mod SpellsExpressions
 pub mod SpellsClauses
 pub mod RereadingClauses
+pub mod ShallowClauses
 pub mod TextsWords
 pub mod TextsClose
 pub mod TextsUtf8

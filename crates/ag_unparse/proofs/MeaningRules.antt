@@ -25,7 +25,7 @@ use Rattle.ag_unparse.specs.Canonical.{name_at, sign_at, number_word, truth_word
 use Rattle.ag_unparse.specs.Depth.{Fits, AllFit}
 use Rattle.ag_unparse.specs.Layout.{Spelled}
 use Rattle.ag_unparse.specs.Spelling.{StandAs}
-use Rattle.ag_unparse.proofs.MeaningPlaced.{placed, split, placed_join}
+use Rattle.ag_unparse.proofs.MeaningPlaced.{placed, Split, split, placed_join}
 use Rattle.ag_unparse.proofs.MeaningReads.{at_word, comma_word}
 
 -- ---- runs
@@ -42,13 +42,19 @@ run_join site (Err r) a b = refl
 run_join site (Ok opens) [] b = refl
 run_join site (Ok opens) (m ∷ a) b = run_join site (obey site opens m) a b
 
+-- words behind words, taken apart
+pub run_split : (site : Site) (bytes : List ℕ) (opens : List Open) (ws vs : List Spelled) (ts : List Token) (s : Split bytes ts ws vs)
+    → run_from site (Ok opens) (placed bytes (ws ++ vs) ts) ≡ run_from site (run_from site (Ok opens) (placed bytes ws s.front)) (placed bytes vs s.rest)
+run_split site bytes opens ws vs ts s =
+    ap (λ (z : List Token). run_from site (Ok opens) (placed bytes (ws ++ vs) z)) s.whole
+    ∙ ap (run_from site (Ok opens)) (placed_join bytes ws vs s.front s.rest s.first)
+    ∙ run_join site (Ok opens) (placed bytes ws s.front) (placed bytes vs s.rest)
+
 -- words behind words
 pub runs_join : (site : Site) (bytes : List ℕ) (opens mid last : List Open) (ws vs : List Spelled) → Runs site bytes opens ws mid → Runs site bytes mid vs last → Runs site bytes opens (ws ++ vs) last
 runs_join site bytes opens mid last ws vs r q ts h =
     let s = split bytes ws vs ts h in
-    ap (λ (z : List Token). run_from site (Ok opens) (placed bytes (ws ++ vs) z)) s.whole
-    ∙ ap (run_from site (Ok opens)) (placed_join bytes ws vs s.front s.rest s.first)
-    ∙ run_join site (Ok opens) (placed bytes ws s.front) (placed bytes vs s.rest)
+    run_split site bytes opens ws vs ts s
     ∙ ap (λ (z : Result (List Open) Refusal). run_from site z (placed bytes vs s.rest)) (r s.front s.first)
     ∙ q s.rest s.second
 
@@ -87,10 +93,10 @@ inner site bytes opens mid last w ws free step shallow r = runs_word site bytes 
 abbrev pub Keeps : Site → List ℕ → ℕ → List Spelled → Type 0
 Keeps site bytes n ws = (opens : List Open) → levels opens ≡ n → Runs site bytes opens ws opens
 
-deeper : (opens : List Open) (n : ℕ) → levels opens ≡ n → levels (Bracket ∷ opens) ≡ n + 1
+pub deeper : (opens : List Open) (n : ℕ) → levels opens ≡ n → levels (Bracket ∷ opens) ≡ n + 1
 deeper opens n e = omega arith
 
-twice : (o : Open) (opens : List Open) (n : ℕ) → levels (o ∷ []) ≡ 1 → levels opens ≡ n → levels (o ∷ Bracket ∷ opens) ≡ n + 2
+pub twice : (o : Open) (opens : List Open) (n : ℕ) → levels (o ∷ []) ≡ 1 → levels opens ≡ n → levels (o ∷ Bracket ∷ opens) ≡ n + 2
 twice o opens n d e = omega arith
 
 most : (opens : List Open) (n k : ℕ) → levels opens ≡ n → n ≤ k → k ≤ most_levels → levels opens ≤ most_levels
@@ -115,7 +121,7 @@ body_keeps site bytes n fits (Some i) opens e =
     let low = most opens n n e (omega arith) fits in
     inner site bytes opens opens opens _ _ refl refl low (inner site bytes opens opens opens _ _ refl refl low (runs_nothing site bytes opens))
 
-path_keeps : (site : Site) (bytes : List ℕ) (n : ℕ) → n ≤ most_levels → (p : Path) → Keeps site bytes n (path_words p)
+pub path_keeps : (site : Site) (bytes : List ℕ) (n : ℕ) → n ≤ most_levels → (p : Path) → Keeps site bytes n (path_words p)
 path_keeps site bytes n fits p opens e =
     let parts = part_words (package_parts p.«package» ++ p.name.text ∷ []) in
     runs_join site bytes opens opens opens parts (body_words p.body) (parts_keep site bytes n fits (package_parts p.«package» ++ p.name.text ∷ []) opens e) (body_keeps site bytes n fits p.body opens e)
@@ -164,7 +170,7 @@ operator_placed Times = refl
 operator_placed Div = refl
 operator_placed Mod = refl
 
-operator_opens : (op : Binary) (opens : List Open) → behind (binary_word op).mark (Bracket ∷ opens) ≡ Some (Chain (rank op) 1 ∷ Bracket ∷ opens)
+pub operator_opens : (op : Binary) (opens : List Open) → behind (binary_word op).mark (Bracket ∷ opens) ≡ Some (Chain (rank op) 1 ∷ Bracket ∷ opens)
 operator_opens Arrow opens = refl
 operator_opens Implies opens = refl
 operator_opens Iff opens = refl

@@ -59,7 +59,7 @@ all_still site bytes (w ∷ ws) h =
 joined : (site : Site) (bytes : List ℕ) (ws vs : List Spelled) → Shut site bytes ws → Shut site bytes vs → Shut site bytes (ws ++ vs)
 joined site bytes ws vs r q = runs_join site bytes [] [] [] ws vs r q
 
-names_run : (site : Site) (bytes : List ℕ) (ws : List Spelled) → within var_set ws ≡ true → Shut site bytes ws
+pub names_run : (site : Site) (bytes : List ℕ) (ws : List Spelled) → within var_set ws ≡ true → Shut site bytes ws
 names_run site bytes ws h = all_still site bytes ws (within_passes var_set is_still ws refl h)
 
 -- the first word of a clause
@@ -80,14 +80,14 @@ some_value_runs site bytes (Some t) f = value_runs site bytes (codes "=") t f
 claim_runs : (site : Site) (bytes : List ℕ) (l : Labelled) → Fits 0 l.claim → Shut site bytes (label_word l.label ∷ value_words (codes ":") l.claim)
 claim_runs site bytes l f = still site bytes (label_word l.label) (value_words (codes ":") l.claim) refl (value_runs site bytes (codes ":") l.claim f)
 
-equal_runs : (site : Site) (bytes : List ℕ) (e : Equal) → Fits 0 e.value → Shut site bytes (equal_words e)
+pub equal_runs : (site : Site) (bytes : List ℕ) (e : Equal) → Fits 0 e.value → Shut site bytes (equal_words e)
 equal_runs site bytes e f = still site bytes (name_at target_mark e.name.text) (value_words (codes "=") e.value) refl (value_runs site bytes (codes "=") e.value f)
 
 equations_run : (site : Site) (bytes : List ℕ) (es : List Equal) → EquationsFit es → Shut site bytes (flat_map equal_words es)
 equations_run site bytes [] f = runs_nothing site bytes []
 equations_run site bytes (e ∷ es) f = joined site bytes (equal_words e) (flat_map equal_words es) (equal_runs site bytes e f.0) (equations_run site bytes es f.1)
 
-locals_run : (site : Site) (bytes : List ℕ) (vs : List Var) → Shut site bytes (locals_words vs)
+pub locals_run : (site : Site) (bytes : List ℕ) (vs : List Var) → Shut site bytes (locals_words vs)
 locals_run site bytes [] = runs_nothing site bytes []
 locals_run site bytes (v ∷ vs) = still site bytes (name_at locals_mark (codes "var")) (flat_map local_words (v ∷ vs)) refl (names_run site bytes (flat_map local_words (v ∷ vs)) (locals_marks (v ∷ vs)))
 
@@ -133,7 +133,7 @@ assign_placed Library e h = absurd cc
 assign_placed Frame e h = absurd cc
 assign_placed Body e h = refl
 
-clause_runs : (site : Site) (bytes : List ℕ) (c : Clause) → may_stand site c ≡ true → IsShallow c → Shut site bytes (clause_words c)
+pub clause_runs : (site : Site) (bytes : List ℕ) (c : Clause) → may_stand site c ≡ true → IsShallow c → Shut site bytes (clause_words c)
 clause_runs site bytes (clause.Assume l) h f = begins site bytes (name_at assume_mark (codes "assume")) (label_word l.label ∷ value_words (codes ":") l.claim) (assume_placed site l h) refl (claim_runs site bytes l f)
 clause_runs site bytes (clause.Guarantee l) h f = begins site bytes (name_at guarantee_mark (codes "guarantee")) (label_word l.label ∷ value_words (codes ":") l.claim) (guarantee_placed site l h) refl (claim_runs site bytes l f)
 clause_runs site bytes (clause.Lemma l) h f = begins site bytes (name_at lemma_mark (codes "lemma")) (label_word l.label ∷ value_words (codes ":") l.claim) (lemma_placed site l h) refl (claim_runs site bytes l f)

@@ -47,7 +47,7 @@ kept_within file before text after tokens k =
 
 -- ---- the terminals of tokens
 
-terminals_are : (bytes : List ℕ) (ts : List Token) (ws : List Spelled) → StandAs bytes ts ws → terminals_of bytes ts ≡ terminals_of_words ws
+pub terminals_are : (bytes : List ℕ) (ts : List Token) (ws : List Spelled) → StandAs bytes ts ws → terminals_of bytes ts ≡ terminals_of_words ws
 terminals_are bytes [] [] h = refl
 terminals_are bytes [] (w ∷ ws) h = absurd h
 terminals_are bytes (t ∷ ts) [] h = absurd h

@@ -13,7 +13,8 @@ use ag_annex::{Clause, Equal, Labelled, NodeDef, Term, Var};
 use ag_base::OutOfMemory;
 use std::mem::replace;
 
-/// Writes the canonical text of clauses behind a text, a line for each.
+/// Writes the canonical text of clauses behind a text, a line for each. After an error a part of them
+/// may stand behind the text.
 pub fn write_clauses(text: &mut String, clauses: &[Clause]) -> Result<(), OutOfMemory>
     ensures { OnOk result (string_bytes text.new ≡ string_bytes text.old ++ clauses_text clauses.now) }
 {

@@ -15,4 +15,4 @@ returns-clause-ok c =
     printed-reads bytes packages c.print_packages.result c.print_packages.ensures.text
     (λ stated. c.files_are_printable.ensures.stated read.file bytes read.tokens packages stated read.kept read.read)
     (λ file stated. c.canonical_rereads.ensures file packages stated printable)
-    (λ file stated. c.annexes_reread.ensures file packages stated printable)
+    (λ file stated. c.annexes_reread.ensures.read file packages stated printable)
