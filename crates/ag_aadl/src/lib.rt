@@ -148,6 +148,3 @@ pub fn one_refusal()
 pub fn aadl_is_ll1()
     ensures { IsLl1 aadl }
 {}
-
-#[cfg(test)]
-mod tests;

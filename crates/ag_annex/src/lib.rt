@@ -154,6 +154,3 @@ pub fn one_refusal()
 pub fn annex_is_ll1()
     ensures { IsLl1 annex }
 {}
-
-#[cfg(test)]
-mod tests;

@@ -137,6 +137,3 @@ pub fn symbols_end()
 pub fn pieces_keep()
     ensures { (l : Language) (file : ℕ) (before text : List ℕ) (pieces : List Piece) → AreRead l pieces text [] → AreFine l pieces → (l ≡ Aadl → IsUtf8 text) → AreKept l file before text (tokens_of file before pieces) }
 {}
-
-#[cfg(test)]
-mod tests;

@@ -35,6 +35,3 @@ pub fn lines_read()
     annexes_end();
     pieces_keep();
 }
-
-#[cfg(test)]
-mod tests;

@@ -5,8 +5,6 @@
 //! of what was read. Start at `agree` in top.rt, and at specs/Outcome.antt and specs/Printing.antt.
 #![tactic(auto)]
 
-#[cfg(test)]
-mod annex_tests;
 mod board;
 mod check;
 pub mod history;
@@ -17,8 +15,6 @@ mod refusal;
 mod say;
 mod settle;
 mod tell;
-#[cfg(test)]
-mod tests;
 mod top;
 mod words;
 

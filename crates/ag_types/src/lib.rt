@@ -38,6 +38,3 @@ mod value;
 pub use scope::{Scope, one_refusal, type_of};
 pub use sum_rows::{is_sum, linear};
 pub use types::one_answer;
-
-#[cfg(test)]
-mod tests;

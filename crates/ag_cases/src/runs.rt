@@ -1,13 +1,16 @@
 //! Whole runs in memory: what is written, to the byte, and how the run ends.
-use crate::agree;
+//!
+//! What `print -` writes stands in `prints`, and what it refuses in `refusals`.
 use ag_base::{List, MemFolder, MemSink, MemSource, Status, Text};
+use ag_top::agree;
 use std::alloc::Global;
 use std::process::Abort;
 use std::sync::Wait;
 use std::test::Fail;
 use std::thread::Threads;
 
-const PACKAGE: &str =
+/// A package in canonical form, which may be checked.
+pub const PACKAGE: &str =
     "package P\npublic\nwith Base_Types;\nsystem S\nfeatures\na : in data port Base_Types::Boolean;\n\
 b : in data port Base_Types::Boolean;\no : out data port Base_Types::Boolean;\nannex agree {**\n\
 guarantee \"g\" : true;\n**};\nend S;\nsystem implementation S.i\nannex agree {**\nassign o = a;\n**};\nend S.i;\nend P;\n";
@@ -43,21 +46,20 @@ end report
 closed 1: 1 proved, 0 refuted, 0 consistent, 1 inconsistent, 0 unknown
 ";
 
-/// A run on these words and this text, of which one byte is read at a time.
-pub fn expect<R: Threads + Wait + Abort + Sync>(
+/// A run on these words and bytes, in which no read and no write fails.
+pub fn expect_run<R: Threads + Wait + Abort + Sync>(
     rt: &R,
     alloc: Global,
     words: &[&str],
-    text: &str,
-    failing: (u32, u32),
-    room: u32,
+    bytes: &[u8],
     wanted: (&str, Status, u32),
 ) -> Result<(), Fail> {
-    expect_of_bytes(rt, alloc, words, text.as_bytes(), failing, room, wanted)
+    expect(rt, alloc, words, bytes, (0, 0), 65536, wanted)
 }
 
-/// The same on bytes that may be no text.
-pub fn expect_of_bytes<R: Threads + Wait + Abort + Sync>(
+/// A run on these words and bytes, of which one is read at a time. The read and the write of the numbers fail, none where
+/// the number is 0, and the sink has that room.
+pub fn expect<R: Threads + Wait + Abort + Sync>(
     rt: &R,
     alloc: Global,
     words: &[&str],
@@ -79,7 +81,10 @@ pub fn expect_of_bytes<R: Threads + Wait + Abort + Sync>(
     let mut folder = MemFolder::make(alloc, List::new(alloc), List::new(alloc));
     let done = agree(rt, alloc, &given, &mut source, &mut sink, &mut folder);
     let (output, status, entries) = wanted;
-    assert_eq!(rt; sink.bytes(), output.as_bytes());
+    let written = str::from_utf8(sink.bytes())
+        .ok()
+        .ok_or("a text is written")?;
+    assert_eq!(rt; written, output);
     assert_eq!(rt; done.status, status);
     assert_eq!(rt; done.history.len(), entries);
     Ok(())
@@ -120,7 +125,7 @@ fn checks_what_it_reads(rt: HostRuntime) -> Result<(), Fail> {
             &rt,
             rt.alloc(),
             &["check", "-"],
-            text.as_str(),
+            text.as_bytes(),
             (0, 0),
             4096,
             (*output, *status, entries),
@@ -129,7 +134,8 @@ fn checks_what_it_reads(rt: HostRuntime) -> Result<(), Fail> {
     Ok(())
 }
 
-const MODEL: &str = "package P
+/// Another one with formulas.
+pub const MODEL: &str = "package P
 public
 with Base_Types;
 system S
@@ -142,26 +148,6 @@ end S;
 system implementation S.i
 annex agree {**
 assign o = a and b;
-**};
-end S.i;
-end P;
-";
-
-const PRINTED_MODEL: &str = "package P
-public
-with Base_Types;
-system S
-features
-a : in data port Base_Types::Boolean;
-b : in data port Base_Types::Boolean;
-o : out data port Base_Types::Boolean;
-annex agree {**
-guarantee \"g\" : (o => a);
-**};
-end S;
-system implementation S.i
-annex agree {**
-assign o = (a and b);
 **};
 end S.i;
 end P;
@@ -212,7 +198,7 @@ fn checks_formulas(rt: HostRuntime) -> Result<(), Fail> {
             &rt,
             rt.alloc(),
             &["check", "-"],
-            text.as_str(),
+            text.as_bytes(),
             (0, 0),
             4096,
             (*output, *status, entries),
@@ -229,7 +215,7 @@ fn ends_where_the_outside_fails(rt: HostRuntime) -> Result<(), Fail> {
         &rt,
         rt.alloc(),
         &check,
-        PACKAGE,
+        PACKAGE.as_bytes(),
         (3, 0),
         4096,
         ("", Status::ReadFault, 0),
@@ -238,7 +224,7 @@ fn ends_where_the_outside_fails(rt: HostRuntime) -> Result<(), Fail> {
         &rt,
         rt.alloc(),
         &check,
-        PACKAGE,
+        PACKAGE.as_bytes(),
         (0, 1),
         4096,
         ("", Status::WriteFault, 1),
@@ -247,7 +233,7 @@ fn ends_where_the_outside_fails(rt: HostRuntime) -> Result<(), Fail> {
         &rt,
         rt.alloc(),
         &check,
-        PACKAGE,
+        PACKAGE.as_bytes(),
         (0, 2),
         4096,
         (first, Status::WriteFault, 6),
@@ -256,7 +242,7 @@ fn ends_where_the_outside_fails(rt: HostRuntime) -> Result<(), Fail> {
         &rt,
         rt.alloc(),
         &check,
-        PACKAGE,
+        PACKAGE.as_bytes(),
         (0, 0),
         50,
         (first, Status::WriteFault, 6),
@@ -269,14 +255,22 @@ fn each_read_may_fail(rt: HostRuntime) -> Result<(), Fail> {
     let last = u32::try_from(MODEL.len()).unwrap_or(0).saturating_add(1);
     for n in 1..=last {
         let wanted = ("", Status::ReadFault, 0);
-        expect(&rt, rt.alloc(), &check, MODEL, (n, 0), 4096, wanted)?;
+        expect(
+            &rt,
+            rt.alloc(),
+            &check,
+            MODEL.as_bytes(),
+            (n, 0),
+            4096,
+            wanted,
+        )?;
     }
     let wanted = (PROVED, Status::AllGood, 9);
     expect(
         &rt,
         rt.alloc(),
         &check,
-        MODEL,
+        MODEL.as_bytes(),
         (last.saturating_add(1), 5),
         4096,
         wanted,
@@ -295,7 +289,15 @@ fn each_write_may_fail(rt: HostRuntime) -> Result<(), Fail> {
     for (n, reply, entries) in &rows {
         let (before, _) = PROVED.split_once(*reply).ok_or("there is such a reply")?;
         let wanted = (before, Status::WriteFault, *entries);
-        expect(&rt, rt.alloc(), &check, MODEL, (0, *n), 4096, wanted)?;
+        expect(
+            &rt,
+            rt.alloc(),
+            &check,
+            MODEL.as_bytes(),
+            (0, *n),
+            4096,
+            wanted,
+        )?;
     }
     Ok(())
 }
@@ -317,7 +319,7 @@ fn tells_its_usage(rt: HostRuntime) -> Result<(), Fail> {
             &rt,
             rt.alloc(),
             *words,
-            PACKAGE,
+            PACKAGE.as_bytes(),
             (1, 0),
             64,
             (usage, Status::Usage, 0),
@@ -333,7 +335,7 @@ fn refuses_what_is_too_long_for<R: Threads + Wait + Abort + Sync>(
 ) -> Result<(), Fail> {
     let text = " ".repeat(alloc, 4_194_305)?;
     let wanted = ("refused - TooLong\n", Status::ModelRefused, 0);
-    expect(rt, alloc, words, text.as_str(), (0, 0), 64, wanted)
+    expect(rt, alloc, words, text.as_bytes(), (0, 0), 64, wanted)
 }
 
 #[test]
@@ -346,14 +348,8 @@ fn prints_nothing_too_long(rt: HostRuntime) -> Result<(), Fail> {
     refuses_what_is_too_long_for(&rt, rt.alloc(), &["print", "-"])
 }
 
-const DEVICE: &str = "package Q
-public
-with Base_Types; -- c
-device D features p : out event data port Base_Types::Integer; properties Period => 10 ms; end D;
-end Q;
-";
-
-const PRINTED_DEVICE: &str = "package Q
+/// A package in canonical form that declares a device.
+pub const DEVICE: &str = "package Q
 public
 with Base_Types;
 device D
@@ -363,112 +359,6 @@ end D;
 end Q;
 ";
 
-const PARTS: &str = "PACKAGE A::B public with C, D :: E; data Whole end Whole; SYSTEM s end S;
-thread T features f : requires bus access X; i : in event port; flows none; annex emv2 {** x **}; end T;
-device implementation D.i subcomponents t : thread A::B::T.i {p => (1);}; m : memory M; n : abstract; connections
-c : port t.i -> o {Timing => immediate;}; d : port q -> t . r; e : parameter f -> g; end d.I; end a::b; package E public end E;";
-
-const PRINTED_PARTS: &str = "package A::B
-public
-with C;
-with D::E;
-system s
-end s;
-thread T
-features
-i : in event port;
-end T;
-device implementation D.i
-subcomponents
-t : thread A::B::T.i;
-n : abstract;
-connections
-c : port t.i -> o;
-d : port q -> t.r;
-end D.i;
-end A::B;
-package E
-public
-end E;
-";
-
-#[test]
-fn prints_what_it_reads(rt: HostRuntime) -> Result<(), Fail> {
-    let print = ["print", "-"];
-    let rows = [
-        ("", ""),
-        (" -- nothing\n", ""),
-        (DEVICE, PRINTED_DEVICE),
-        (PRINTED_DEVICE, PRINTED_DEVICE),
-        (PARTS, PRINTED_PARTS),
-        (PRINTED_PARTS, PRINTED_PARTS),
-        (PACKAGE, PACKAGE),
-        (MODEL, PRINTED_MODEL),
-    ];
-    for (text, output) in &rows {
-        let wanted = (*output, Status::AllGood, 0);
-        expect(&rt, rt.alloc(), &print, *text, (0, 0), 4096, wanted)?;
-    }
-    Ok(())
-}
-
-#[test]
-fn refuses_to_print(rt: HostRuntime) -> Result<(), Fail> {
-    let print = ["print", "-"];
-    let rows = [
-        // Rules of tokens, which come before those of the grammar.
-        ("package P\npublic\n\u{1}end P;", "3:1 BadByte"),
-        ("package P private \u{1}", "1:19 BadByte"),
-        ("package P\npublic\n\"abc\nend P;", "3:1 OpenString"),
-        (
-            "package P\npublic\nannex agree {** x\nend P;",
-            "3:13 OpenAnnex",
-        ),
-        // Rules of the grammar.
-        (
-            "package Q\npublic\ndevice D modes m : mode; end D;\nend Q;",
-            "3:10 Unsupported modes",
-        ),
-        ("package P\nPRIVATE\nend P;", "2:1 Unsupported private"),
-        (
-            "package P public system implementation S.i connections c : port a <-> b;",
-            "1:67 Unsupported <->",
-        ),
-        (
-            "package P\npublic\nsystem S features x : in port;",
-            "3:26 Expected",
-        ),
-        ("package P\npublic\n", "3:1 Expected"),
-        ("package Q\npublic\ndevice D end E;\nend Q;", "3:14 EndName"),
-        (
-            "package P\npublic\nsystem S\nfeatures none;\nfeatures none;\nend S;\nend P;",
-            "5:1 Twice",
-        ),
-        (
-            "package P\npublic\nsystem implementation S.i\nconnections\nc : port a -> b {Timing => delayed;};\nend S.i;\nend P;",
-            "5:28 Unsupported delayed",
-        ),
-    ];
-    for (text, refusal) in &rows {
-        let output = format!(in rt.alloc(); "refused -:{refusal}\n")?;
-        let wanted = (output.as_str(), Status::ModelRefused, 0);
-        expect(&rt, rt.alloc(), &print, *text, (0, 0), 4096, wanted)?;
-    }
-    Ok(())
-}
-
-#[test]
-fn prints_no_long_name_and_no_bad_text(rt: HostRuntime) -> Result<(), Fail> {
-    let print = ["print", "-"];
-    let name = "n".repeat(rt.alloc(), 256)?;
-    let text = format!(in rt.alloc(); "package {name}")?;
-    let wanted = ("refused -:1:9 LongName\n", Status::ModelRefused, 0);
-    expect(&rt, rt.alloc(), &print, text.as_str(), (0, 0), 64, wanted)?;
-    let bytes = b"package P\npublic -- \xff\nend P;";
-    let wanted = ("refused -:2:11 NotUtf8\n", Status::ModelRefused, 0);
-    expect_of_bytes(&rt, rt.alloc(), &print, bytes, (0, 0), 64, wanted)
-}
-
 #[test]
 fn a_print_ends_where_the_outside_fails(rt: HostRuntime) -> Result<(), Fail> {
     let print = ["print", "-"];
@@ -477,7 +367,7 @@ fn a_print_ends_where_the_outside_fails(rt: HostRuntime) -> Result<(), Fail> {
         (DEVICE, (3, 0), 4096, ("", Status::ReadFault, 0)),
         (DEVICE, (0, 1), 4096, ("", Status::WriteFault, 0)),
         (DEVICE, (0, 2), 13, (front, Status::WriteFault, 0)),
-        (DEVICE, (0, 2), 4096, (PRINTED_DEVICE, Status::AllGood, 0)),
+        (DEVICE, (0, 2), 4096, (DEVICE, Status::AllGood, 0)),
         ("x", (0, 1), 4096, ("", Status::WriteFault, 0)),
         ("x", (0, 0), 9, ("refused -", Status::WriteFault, 0)),
         (PACKAGE, (0, 1), 4096, ("", Status::WriteFault, 0)),
@@ -486,7 +376,15 @@ fn a_print_ends_where_the_outside_fails(rt: HostRuntime) -> Result<(), Fail> {
         ("", (1, 0), 4096, ("", Status::ReadFault, 0)),
     ];
     for (text, failing, room, wanted) in &rows {
-        expect(&rt, rt.alloc(), &print, *text, *failing, *room, *wanted)?;
+        expect(
+            &rt,
+            rt.alloc(),
+            &print,
+            text.as_bytes(),
+            *failing,
+            *room,
+            *wanted,
+        )?;
     }
     Ok(())
 }

@@ -1,8 +1,9 @@
+//! Tokens: where they stand in a file and in an annex, and which rule on them is broken first.
 ghost use Rattle.std.specs.Prelude.{◌<◌, ◌^◌, length};
 
-use crate::TokenKind::{Annex, Name, Number, Real, Symbol, Text};
-use crate::{Token, TokenKind, annex_tokens, file_tokens};
 use ag_base::{List, Place, Refusal, Refused, Rule};
+use ag_lex::TokenKind::{Annex, Name, Number, Real, Symbol, Text};
+use ag_lex::{Token, TokenKind, annex_tokens, file_tokens};
 use std::alloc::Global;
 use std::process::Abort;
 use std::test::Fail;

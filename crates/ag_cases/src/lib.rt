@@ -1,0 +1,24 @@
+//! Worked cases: what the crates answer to texts, from tokens to whole runs of the program.
+//!
+//! It has no items but tests. Each module stands for one public call, most with tables that have a case on
+//! each line, so that a case is added as a line. Start at `table`.
+#![tactic(auto)]
+
+#[cfg(test)]
+mod clauses;
+#[cfg(test)]
+mod packages;
+#[cfg(test)]
+mod prints;
+#[cfg(test)]
+mod refusals;
+#[cfg(test)]
+mod runs;
+#[cfg(test)]
+mod scopes;
+#[cfg(test)]
+mod sums;
+#[cfg(test)]
+mod table;
+#[cfg(test)]
+mod tokens;
