@@ -35,3 +35,4 @@ pub mod PrintablePackages
 pub mod AnnexTexts
 pub mod AnnexItems
 pub mod PrintableStated
+pub mod OneAnswer

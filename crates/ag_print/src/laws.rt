@@ -1,13 +1,14 @@
-//! What canonical text is read as.
-ghost use Rattle.std.specs.Prelude.{ℕ, List, [], IsTrue};
+//! What canonical text is read as, and that the annexes of packages have one answer.
+ghost use Rattle.std.specs.Prelude.{◌≡◌, ℕ, List, [], IsTrue};
 ghost use Rattle.std.specs.List.{All};
+ghost use Rattle.ag_base.specs.declared.place.Refusal.{Refusal};
 ghost use Rattle.ag_grammar.specs.declared.grammar.Step.{Step};
 ghost use Rattle.ag_lex.specs.declared.token.Language.TheVariants.{Aadl};
 ghost use Rattle.ag_lex.specs.declared.token.Token.{Token};
 ghost use Rattle.ag_lex.specs.Answers.{AreKept};
 ghost use Rattle.ag_aadl.specs.declared.packages.Package.{Package};
 ghost use Rattle.ag_aadl.specs.Files.{IsFile};
-ghost use Rattle.ag_print.specs.Annexes.{Stated, PackagesState, annexes_of_packages};
+ghost use Rattle.ag_print.specs.Annexes.{Stated, PackagesState, IsAnnexRefused, annexes_of_packages};
 ghost use Rattle.ag_print.specs.Printable.{are_printable, StatedMayBePrinted};
 ghost use Rattle.ag_print.specs.Shares.{IsOneOf};
 ghost use Rattle.ag_print.specs.Spelling.{IsReadCanonical};
@@ -34,4 +35,16 @@ pub fn files_are_printable()
 {
     ag_unparse::annexes_may_be_printed();
     ag_unparse::labels_are_text();
+}
+
+/// The annexes of packages state one thing at most and get one refusal at most, and never both.
+pub fn one_answer()
+    ensures stated { (bytes : List ℕ) (packages : List Package) (a b : Stated) → PackagesState bytes packages a → PackagesState bytes packages b → a ≡ b }
+    ensures refused { (bytes : List ℕ) (packages : List Package) (r s : Refusal) → IsAnnexRefused bytes packages r → IsAnnexRefused bytes packages s → r ≡ s }
+    ensures not_both { (bytes : List ℕ) (packages : List Package) (a : Stated) (r : Refusal) → PackagesState bytes packages a → IsAnnexRefused bytes packages r → ⊥ }
+{
+    ag_lex::one_reading();
+    ag_lex::one_refusal();
+    ag_annex::one_reading();
+    ag_annex::one_refusal();
 }

@@ -19,7 +19,7 @@ mod symbol;
 mod writer;
 
 use ag_lex::{annexes_end, names_end, pieces_keep, symbols_end};
-pub use laws::{canonical_spells, files_are_printable};
+pub use laws::{canonical_spells, files_are_printable, one_answer};
 pub use print::print_file;
 pub use rereading::{annexes_reread, canonical_rereads, one_text, words_reread};
 pub use symbol::Symbol;

@@ -12,3 +12,4 @@ mod Checking
 mod Reading
 mod Tops
 mod Prints
+mod OnePrint

@@ -8,6 +8,7 @@
 mod board;
 mod check;
 pub mod history;
+mod laws;
 mod print;
 mod prover;
 mod read;
@@ -19,4 +20,5 @@ mod top;
 mod words;
 
 pub use check::Done;
+pub use laws::one_print;
 pub use top::agree;
