@@ -199,8 +199,8 @@ fn refuses_circles_and_numbers(rt: HostRuntime) -> Result<(), Fail> {
     expect_faults(&rt, rt.alloc(), CIRCLES_AND_NUMBERS)
 }
 
-// Streams `x0`, `x1` and so on, and one more that is the sum of so many, in brackets of a hundred.
-fn stream_of_sum(alloc: Global, terms: usize) -> Result<String, Fail> {
+/// So many streams `x0`, `x1` and so on, and their sum, in brackets of a hundred.
+pub fn streams_and_sum(alloc: Global, terms: usize) -> Result<(String, String), Fail> {
     let mut streams = String::new(alloc);
     let mut sum = String::new(alloc);
     for term in 0..terms {
@@ -216,19 +216,24 @@ fn stream_of_sum(alloc: Global, terms: usize) -> Result<String, Fail> {
         let next = format!(in alloc; "{joined}x{term}")?;
         sum.push_str(next.as_str())?;
     }
-    Ok(format!(in alloc; "{streams}eq t : int = {sum});")?)
+    sum.push_str(")")?;
+    Ok((streams, sum))
 }
 
 #[test]
 fn counts_terms(rt: HostRuntime) -> Result<(), Fail> {
-    for (terms, fits) in [(1024, true), (1025, false)] {
-        let streams = stream_of_sum(rt.alloc(), terms)?;
-        let clauses = clauses_of(rt.alloc(), 1, Site::Frame, streams.as_str())?;
+    for terms in [1024, 1025] {
+        let (streams, sum) = streams_and_sum(rt.alloc(), terms)?;
+        let text = format!(in rt.alloc(); "{streams}eq t : int = {sum};")?;
+        let clauses = clauses_of(rt.alloc(), 1, Site::Frame, text.as_str())?;
         match fault_of(rt.alloc(), &[], clauses.as_slice(), &[])? {
-            None => assert!(rt; fits),
+            None => assert_eq!(rt; terms, 1024),
             Some(refusal) => {
-                assert!(rt; !fits);
+                assert_eq!(rt; terms, 1025);
                 assert_eq!(rt; refusal.rule, Rule::Coefficient);
+                // The first stream of the sum, behind `eq t : int = (`.
+                let before = streams.as_str().len().wrapping_add(17);
+                assert_eq!(rt; refusal.place.column as usize, before.wrapping_add(1));
             }
         }
     }

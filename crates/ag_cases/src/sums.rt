@@ -1,31 +1,48 @@
 //! Expressions: their types, whether they are sums, and the rows of sums.
 use crate::clauses::clauses_of;
-use crate::scopes::ports;
+use crate::scopes::{ports, streams_and_sum};
 use crate::table::{field, is_case, marked};
 use ag_annex::{Clause, Site, Ty};
-use ag_base::{Place, Refusal, Refused};
+use ag_base::{Place, Refusal, Refused, Rule};
 use ag_stream::problem::{Row, RowTerm};
 use ag_types::{Scope, is_sum, linear, type_of};
 use std::alloc::Global;
 use std::process::Abort;
 use std::test::Fail;
 
-// What the expressions see besides ports: streams, constants and nodes.
-const SEEN: &str =
+// What the expressions see besides ports: streams, constants and nodes of a package, a type and an implementation.
+const LIBRARY: &str = "const large : int = 140737488355328 * 4;";
+
+const FRAME: &str =
     "eq x : int, y : int = pair(1); eq b : bool; const n : int = 3; const t : bool = true; node inc(i : int) returns (o : int); let o = i + 1; tel; node flag(i : bool, j : int) returns (o : bool); let o = i; tel; node pair(i : int) returns (o : int, p : int); let o = i; p = i; tel;";
 
-// The type of an expression that stands behind `assume "" : `, its first byte in column 16, and its row where it is a sum.
-fn answered(
-    alloc: Global,
-    expression: &str,
-) -> Result<(Result<Ty, Refusal>, Option<Result<Row, Refused>>), Fail> {
-    let seen = clauses_of(alloc, 0, Site::Frame, SEEN)?;
+const BODY: &str = "eq w : int;";
+
+// The type of an expression, and its row where it is a sum.
+type Answered = (Result<Ty, Refusal>, Option<Result<Row, Refused>>);
+
+// What is answered for an expression that stands behind `assume "" : `, its first byte in column 16.
+fn answered(alloc: Global, expression: &str) -> Result<Answered, Fail> {
+    answered_in(alloc, FRAME, expression)
+}
+
+// The same where a type has these clauses.
+fn answered_in(alloc: Global, frame: &str, expression: &str) -> Result<Answered, Fail> {
+    let library = clauses_of(alloc, 0, Site::Library, LIBRARY)?;
+    let frame = clauses_of(alloc, 0, Site::Frame, frame)?;
+    let body = clauses_of(alloc, 0, Site::Body, BODY)?;
     let text = format!(in alloc; "assume \"\" : {expression};")?;
     let clauses = clauses_of(alloc, 0, Site::Frame, text.as_str())?;
     let ports = ports(alloc).ok().ok_or("ports")?;
-    let scope = Scope::make(alloc, &[], seen.as_slice(), &[], ports.as_slice())
-        .ok()
-        .ok_or("scope")?;
+    let scope = Scope::make(
+        alloc,
+        library.as_slice(),
+        frame.as_slice(),
+        body.as_slice(),
+        ports.as_slice(),
+    )
+    .ok()
+    .ok_or("scope")?;
     match clauses.as_slice() {
         [Clause::Assume(assume)] => {
             let claim = &assume.claim;
@@ -134,6 +151,8 @@ fn expect_refusal<R: Abort>(
 ) -> Result<(), Fail> {
     let (rule, _) = field(case)?;
     let place = place.ok_or("a place")?;
+    assert_eq!(rt; refusal.place.file, 0, "{case}");
+    assert_eq!(rt; refusal.place.line, 1, "{case}");
     assert_eq!(rt;
         refusal.place.column,
         place.column.wrapping_add(15),
@@ -179,10 +198,10 @@ const fn term(stream: u16, before: bool, factor: i64) -> RowTerm {
     }
 }
 
-// The integer streams are `i`, `c.x`, `x` and `y`, from 0 on.
+// The integer streams are `i`, `c.x`, `x`, `y` and `w`, from 0 on.
 #[test]
 fn writes_rows(rt: HostRuntime) -> Result<(), Fail> {
-    let rows: [(&str, &[RowTerm], i64); 12] = [
+    let rows: [(&str, &[RowTerm], i64); 19] = [
         ("3", &[], 3),
         ("N", &[], 3),
         ("i", &[term(0, false, 1)], 0),
@@ -206,11 +225,19 @@ fn writes_rows(rt: HostRuntime) -> Result<(), Fail> {
         ),
         ("(-7) div 2 + (-7) mod 2 * x", &[term(2, false, 1)], -4),
         ("2147483648 * x", &[term(2, false, 2147483648)], 0),
+        ("-2147483648 * x", &[term(2, false, -2147483648)], 0),
+        ("x * 3 + w", &[term(2, false, 3), term(4, false, 1)], 0),
         (
             "140737488355328 + 140737488355328 - x",
             &[term(2, false, -1)],
             281474976710656,
         ),
+        ("0 * x - 140737488355328 * 2", &[], -281474976710656),
+        // A constant keeps the limit of constants alone.
+        ("140737488355328 * 2 + 1", &[], 281474976710657),
+        ("large", &[], 562949953421312),
+        ("140737488355328 * 32768", &[], 4611686018427387904),
+        ("-(140737488355328 * 32768)", &[], -4611686018427387904),
     ];
     for row in &rows {
         expect_row(&rt, rt.alloc(), *row)?;
@@ -221,13 +248,29 @@ fn writes_rows(rt: HostRuntime) -> Result<(), Fail> {
 const WITHOUT_ROW: &str = "
 Unknown | ^z + x
 Mismatch | ^b
+Mismatch | ^pre(b)
+Mismatch | ^x < y
+Mismatch | ^not x
+Mismatch | ^b and x
+Unknown | ^z and b
 Mismatch | x + ^b
+-- A sum with a truth has no row.
+Mismatch | 140737488355328 * 4 + ^b
 NotLinear | x ^* y
 BadDivisor | x + 7 div ^0
 Coefficient | ^2147483649 * x
+Coefficient | ^-2147483649 * x
 Coefficient | ^140737488355328 * 2 + 1 - x
--- A constant keeps the limits of rows too.
-Coefficient | ^140737488355328 * 2 + 1
+-- What names a stream keeps the limits of rows, also where the stream falls away; a constant keeps that of constants.
+Coefficient | ^0 * x + 140737488355328 * 2 + 1
+Coefficient | ^0 * x - 140737488355328 * 2 - 1
+Coefficient | ^large + x
+Coefficient | ^large * x
+Coefficient | ^140737488355328 * 32768 + 1
+Coefficient | ^-(140737488355328 * 32768 + 1)
+-- Each level keeps its own limit, whatever stands over it.
+Coefficient | y + (^2147483649 * x - 2147483648 * x)
+Coefficient | 1 - (^140737488355328 * 32768 + 1)
 Coefficient | ^1024 * 1024 * 1024 * 1024 * 1024 * 1024 * 1024 * x
 ";
 
@@ -248,6 +291,27 @@ fn refuses_rows(rt: HostRuntime) -> Result<(), Fail> {
     Ok(())
 }
 
+#[test]
+fn counts_terms_of_rows(rt: HostRuntime) -> Result<(), Fail> {
+    for terms in [1024, 1025] {
+        let (streams, sum) = streams_and_sum(rt.alloc(), terms)?;
+        match answered_in(rt.alloc(), streams.as_str(), sum.as_str())? {
+            (_, Some(Ok(row))) => {
+                assert_eq!(rt; terms, 1024);
+                assert_eq!(rt; row.terms.as_slice().len(), 1024);
+            }
+            (_, Some(Err(Refused::Model(refusal)))) => {
+                assert_eq!(rt; terms, 1025);
+                assert_eq!(rt; refusal.rule, Rule::Coefficient);
+                // The first stream, in brackets.
+                assert_eq!(rt; refusal.place.column, 17);
+            }
+            _ => assert!(rt; false),
+        }
+    }
+    Ok(())
+}
+
 const NO_SUMS: &str = "
 inc(x)
 x -> y
@@ -256,8 +320,11 @@ if b then x else y
 if b then 1 else 2
 x div 2
 1 + x mod 2
+7 div x
+if t then 1 else x
 pre(x + 1)
 pre(n)
+pre(z)
 -pre(inc(x))
 ";
 

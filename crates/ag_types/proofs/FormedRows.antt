@@ -12,11 +12,12 @@ use Rattle.ag_stream.specs.Forms as forms
 use Rattle.ag_stream.specs.Runs.{magnitude}
 use Rattle.ag_types.specs.declared.value.Factor.{Factor}
 use Rattle.ag_types.specs.declared.value.Value.{Value}
+use Rattle.ag_types.specs.Constants.{is_varying}
 use Rattle.ag_types.specs.RowOrder.{AreInOrder}
 use Rattle.ag_types.specs.Rows.{Linear, is_factor, is_zero, keeps_row, precedes}
 use Rattle.ag_types.specs.Seen.{Names}
-use Rattle.ag_types.specs.SumRows.{IsWholeStream, IsSumRow, numbered, numbered_row}
-use Rattle.ag_types.specs.Sums.{is_sum, is_whole, whole_streams}
+use Rattle.ag_types.specs.SumRows.{IsWholeStream, KeepsLimits, IsSumRow, numbered, numbered_row}
+use Rattle.ag_types.specs.Sums.{is_sum, is_whole, whole_streams, IsWithinLimits}
 use Rattle.ag_types.proofs.WorthOfFactors.{both_true, equal_numbers}
 use Rattle.ag_types.proofs.WorthOfNames.{kept_at}
 use Rattle.ag_types.proofs.WorthOfRows.{sum_has_whole_streams}
@@ -117,17 +118,23 @@ kept_parts row e =
     let third = both_true hidden count second.1 in
     record { constant = first.0; factors = second.0; hidden = third.0; count = third.1 }
 
--- the numbered row of a sum is a row of a problem with that many integer streams
-pub rows_are_formed : (names : Names) (values : List (Option Value)) (t : Term) (row : Linear) → is_sum names t ≡ true → IsSumRow names values t row →
-    AreInOrder row.factors → forms.IsRow (length (whole_streams names)) (numbered_row names row)
-rows_are_formed names values t row sum is order =
-    let whole = sum_has_whole_streams names values t row sum is.found in
-    let kept = kept_parts row is.kept in
+limits_kept : (names : Names) (row : Linear) (varies : Bool) → AreWholeStreams names.streams row.factors → AreInOrder row.factors → KeepsLimits varies row →
+    IsWithinLimits varies (length (whole_streams names)) (numbered_row names row)
+limits_kept names row true whole order e =
+    let kept = kept_parts row e in
     let within = at_most 1024 (length row.factors + length row.hidden) kept.count in
     let long = length-map row.factors (numbered names) in
     record {
-      terms = terms_are_formed names row.factors whole.1 order kept.factors;
-      order = terms_in_order names row.factors whole.1 order;
+      terms = terms_are_formed names row.factors whole order kept.factors;
+      order = terms_in_order names row.factors whole order;
       count = omega arith;
       constant = magnitude_within 281474976710656 row.constant kept.constant;
     }
+limits_kept names row false whole order e = (ap (map (numbered names)) e.0, magnitude_within 4611686018427387904 row.constant e.1)
+
+-- the numbered row of a sum is one of a problem with that many integer streams, or a constant's number
+pub rows_are_formed : (names : Names) (values : List (Option Value)) (t : Term) (row : Linear) → is_sum names t ≡ true → IsSumRow names values t row →
+    AreInOrder row.factors → IsWithinLimits (is_varying names t) (length (whole_streams names)) (numbered_row names row)
+rows_are_formed names values t row sum is order =
+    let whole = sum_has_whole_streams names values t row sum is.found in
+    limits_kept names row (is_varying names t) whole.1 order is.kept

@@ -1,5 +1,5 @@
 -- The numbered row of a sum: its numbers fit, and it is the answer to the question for the row.
-use Rattle.std.proofs.Common.{◌≡◌, ℕ, ◌<◌, ℤ, true, not, nat_lt, List, ◌∷◌, [], length, refl, ap, sym, subst, ◌∙◌, arith, All, FitsSigned, to_z, of_z}
+use Rattle.std.proofs.Common.{◌≡◌, ℕ, ◌<◌, ℤ, Bool, true, false, not, nat_lt, List, ◌∷◌, [], length, refl, ap, sym, subst, ◌∙◌, arith, All, FitsSigned, to_z, of_z}
 use Rattle.std.specs.Prelude.{Option, Some, None, Result, Ok, Err, IfOk, IfErr, unsigned_abs}
 use Rattle.std.specs.Int.{w64, w128}
 use Rattle.std.specs.List.{list_all}
@@ -17,13 +17,14 @@ use Rattle.ag_stream.specs.declared.problem.Row.{Row}
 use Rattle.ag_types.specs.declared.numbered.Numbered.{Numbered}
 use Rattle.ag_types.specs.declared.value.Factor.{Factor}
 use Rattle.ag_types.specs.declared.value.Value.{Value}
+use Rattle.ag_types.specs.Constants.{is_varying, is_within}
 use Rattle.ag_types.specs.Firsts.{either}
-use Rattle.ag_types.specs.Numbered.{known, own_equation}
+use Rattle.ag_types.specs.Numbered.{known}
 use Rattle.ag_types.specs.Places.{first_place, first_broken}
 use Rattle.ag_types.specs.RowOrder.{AreInOrder}
 use Rattle.ag_types.specs.Rows.{Linear, is_factor, keeps_row}
 use Rattle.ag_types.specs.Seen.{Seen, Names, names_seen}
-use Rattle.ag_types.specs.SumRows.{IsWholeStream, IsTerm, IsSumRow, numbered_row}
+use Rattle.ag_types.specs.SumRows.{IsWholeStream, IsTerm, KeepsLimits, IsSumRow, numbered_row}
 use Rattle.ag_types.specs.Sums.{is_sum, sum_faults, IsRowOf, IsNoRow}
 use Rattle.ag_types.specs.Types.{type_in, faults_in, mismatch}
 use Rattle.ag_types.specs.Uses.{AreValues}
@@ -48,16 +49,20 @@ back_of z n e h =
 below_factor : (n : ℕ) → not (nat_lt 2147483648 n) ≡ true → n < 9223372036854775808
 below_factor n e = grind (arith, nat_tests)
 
-below_constant : (n : ℕ) → not (nat_lt 281474976710656 n) ≡ true → n < 9223372036854775808
-below_constant n e = grind (arith, nat_tests)
+within_constants : (n : ℕ) → not (nat_lt 281474976710656 n) ≡ true → not (nat_lt 4611686018427387904 n) ≡ true
+within_constants n e = grind (arith, nat_tests)
 
 -- a factor that keeps its limit has 64 bits
 pub factor_back : (z : ℤ) → is_factor z ≡ true → to_z w64 (of_z w64 (to_z w128 (of_z w128 z))) ≡ z
 factor_back z e = back_of z (unsigned_abs z) refl (below_factor (unsigned_abs z) e)
 
--- so has the constant
-pub constant_back : (row : Linear) → keeps_row row ≡ true → to_z w64 (of_z w64 (to_z w128 (of_z w128 row.constant))) ≡ row.constant
-constant_back row e = back_of row.constant (unsigned_abs row.constant) refl (below_constant (unsigned_abs row.constant) (kept_parts row e).constant)
+-- the constant of a row keeps the limit of constants
+kept_constant : (row : Linear) (varies : Bool) → KeepsLimits varies row → is_within row.constant ≡ true
+kept_constant row true e = within_constants (unsigned_abs row.constant) (kept_parts row e).constant
+kept_constant row false e = e.1
+
+pub sum_constant : (names : Names) (values : List (Option Value)) (t : Term) (row : Linear) → IsSumRow names values t row → is_within row.constant ≡ true
+sum_constant names values t row is = kept_constant row (is_varying names t) is.kept
 
 -- ---- terms
 
@@ -73,7 +78,11 @@ pub sum_terms : (names : Names) (values : List (Option Value)) (t : Term) (row :
     All (IsTerm names.streams) row.factors
 sum_terms names values t row sum is =
     let whole = sum_has_whole_streams names values t row sum is.found in
-    are_terms names.streams row.factors whole.1 (kept_parts row is.kept).factors
+    are_terms names.streams row.factors whole.1 (by (is_varying names t) is.kept)
+  where
+    by : (varies : Bool) → KeepsLimits varies row → list_all (λ f. is_factor f.factor) row.factors ≡ true
+    by true e = (kept_parts row e).factors
+    by false e = ap (list_all (λ f. is_factor f.factor)) e.0
 
 -- ---- answers
 
@@ -85,24 +94,14 @@ types_broken names t ty first m of_ty of_first of_m =
     ∙ ap (λ (x : Option Ty). first_broken (mismatch (Some Int) x first)) of_ty
     ∙ ap (λ (p : Place). first_broken (mismatch (Some Int) (type_in names t) p)) of_first
 
--- that on numbers
-side_broken : (names : Names) (values : List (Option Value)) (t : Term) (n : Numbered) (o side : Option Refusal) → n ≡ known names values t →
-    o ≡ first_broken (own_equation n) → side ≡ either o n.broken → side ≡ either (first_broken (own_equation (known names values t))) (known names values t).broken
-side_broken names values t n o side of_n of_o of_side =
-    of_side
-    ∙ ap (λ (x : Option Refusal). either x n.broken) of_o
-    ∙ ap (λ (x : Numbered). either (first_broken (own_equation x)) x.broken) of_n
-
 -- the first broken rule of all
-pub broken_by : (names : Names) (values : List (Option Value)) (t : Term) (n : Numbered) (ty : Option Ty) (first : Place) (b m o side typed all : Option Refusal) →
+pub broken_by : (names : Names) (values : List (Option Value)) (t : Term) (n : Numbered) (ty : Option Ty) (first : Place) (b m typed all : Option Refusal) →
     n ≡ known names values t → ty ≡ type_in names t → first ≡ first_place t → b ≡ first_broken (faults_in names t) →
-    m ≡ first_broken (mismatch (Some Int) ty first) → o ≡ first_broken (own_equation n) → side ≡ either o n.broken → typed ≡ either m side →
-    all ≡ either b typed → first_broken (sum_faults names values t) ≡ all
-broken_by names values t n ty first b m o side typed all of_n of_ty of_first of_b of_m of_o of_side of_typed of_all =
+    m ≡ first_broken (mismatch (Some Int) ty first) → typed ≡ either m n.broken → all ≡ either b typed → first_broken (sum_faults names values t) ≡ all
+broken_by names values t n ty first b m typed all of_n of_ty of_first of_b of_m of_typed of_all =
     let types = types_broken names t ty first m of_ty of_first of_m in
-    let sides = side_broken names values t n o side of_n of_o of_side in
     let broken_type = first_broken (mismatch (Some Int) (type_in names t) (first_place t)) in
-    let behind = of_typed ∙ ap (λ (x : Option Refusal). either x side) types ∙ ap (either broken_type) sides in
+    let behind = of_typed ∙ ap (λ (x : Option Refusal). either x n.broken) types ∙ ap (λ (x : Numbered). either broken_type x.broken) of_n in
     sum_broken names values t
     ∙ sym (of_all ∙ ap (λ (x : Option Refusal). either x typed) of_b ∙ ap (either (first_broken (faults_in names t))) behind)
 

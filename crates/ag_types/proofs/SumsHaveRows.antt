@@ -1,5 +1,5 @@
--- An integer sum that breaks no rule has a row, which keeps the limits of rows.
-use Rattle.std.proofs.Common.{◌≡◌, ℕ, ℤ, Bool, true, false, not, nat_lt, List, [], ◌∷◌, ◌++◌, refl, arith}
+-- An integer sum that breaks no rule has a row, which keeps its limits.
+use Rattle.std.proofs.Common.{◌≡◌, ℕ, ℤ, Bool, true, false, not, nat_lt, List, [], ◌∷◌, ◌++◌, refl, subst, arith}
 use Rattle.std.specs.Prelude.{negsuc, unsigned_abs, Option, Some, None, is_none, if◌then◌else◌}
 use Rattle.std.specs.List.{list_all}
 use Rattle.std.proofs.lemmas.Bool.Decides.{nat_tests}
@@ -14,19 +14,20 @@ use Rattle.ag_annex.specs.declared.terms.Unary.TheVariants as unary
 use Rattle.ag_types.specs.declared.value.Factor.{Factor}
 use Rattle.ag_types.specs.declared.value.Value.{Value}
 use Rattle.ag_types.specs.declared.value.Value.TheVariants as value
-use Rattle.ag_types.specs.Constants.{is_varying, is_stream, is_carried, AreKept, value_in}
+use Rattle.ag_types.specs.Constants.{is_varying, is_stream, is_carried, is_kept, is_within, AreKept, exact_value, value_in}
 use Rattle.ag_types.specs.Firsts.{either}
-use Rattle.ag_types.specs.NumberFaults.{passed_row, equation_row, product, bad_divisor, compared_rows, operand_rows, parts_faults, formula_faults}
+use Rattle.ag_types.specs.NumberFaults.{passed_row, product, bad_divisor, compared_rows, operand_rows, parts_faults, formula_faults}
 use Rattle.ag_types.specs.Places.{first_place, first_broken}
-use Rattle.ag_types.specs.Rows.{Linear, stream_row, plus, minus, is_factor, keeps_row, is_carried_row, carried_row, whole_at, whole_of, whole_stream, row_of_stream, row_of_hidden, row_of_value, both, scaled, row_of_product, row_of_pre, exact_row, row_in}
+use Rattle.ag_types.specs.Rows.{Linear, constant_row, stream_row, plus, minus, is_factor, keeps_row, is_carried_row, carried_row, whole_at, whole_of, whole_stream, row_of_stream, row_of_hidden, row_of_value, both, scaled, row_of_product, row_of_pre, exact_row, row_in}
 use Rattle.ag_types.specs.Seen.{Names, sought, position, value_named, var_name}
-use Rattle.ag_types.specs.SumRows.{IsValueOf, HaveValues, IsSumRow}
+use Rattle.ag_types.specs.SumRows.{IsValueOf, HaveValues, KeepsLimits, IsSumRow}
 use Rattle.ag_types.specs.Sums.{is_sum, is_named_stream, sum_faults}
 use Rattle.ag_types.specs.Types.{type_in, type_of_var, mismatch, faults_in}
 use Rattle.ag_types.proofs.Breaking.{first_broken-append, unbroken}
 use Rattle.ag_types.proofs.ConstantsHaveValues.{constant_value}
 use Rattle.ag_types.proofs.FormedRows.{kept_parts}
-use Rattle.ag_types.proofs.TypedOperators.{not_false, front_nil, back_nil, unless_nil, operand_type}
+use Rattle.ag_types.proofs.TypedOperators.{not_false, front_nil, back_nil, unless_nil, operand_type, kept_is_carried}
+use Rattle.ag_types.proofs.Valuing.{kept_exact}
 use Rattle.ag_types.proofs.WorthOfFactors.{both_true}
 use Rattle.ag_types.proofs.WorthOfNames.{first_at}
 use Rattle.ag_types.proofs.WorthOfRows.{both_sums, not_both}
@@ -278,33 +279,58 @@ there_sum names values (Call' path m args) have kept s e ty f = cc
 -- ---- what a sum breaks
 
 pub sum_broken : (names : Names) (values : List (Option Value)) (t : Term) → first_broken (sum_faults names values t) ≡
-    either (first_broken (faults_in names t)) (either (first_broken (mismatch (Some Int) (type_in names t) (first_place t)))
-    (either (first_broken (equation_row names values t)) (first_broken (formula_faults names values t))))
+    either (first_broken (faults_in names t)) (either (first_broken (mismatch (Some Int) (type_in names t) (first_place t))) (first_broken (formula_faults names values t)))
 sum_broken names values t =
     let typed = mismatch (Some Int) (type_in names t) (first_place t) in
-    let own = equation_row names values t in
     let formula = formula_faults names values t in
-    rw (first_broken-append (faults_in names t) (typed ++ (own ++ formula)), first_broken-append typed (own ++ formula), first_broken-append own formula) refl
+    rw (first_broken-append (faults_in names t) (typed ++ formula), first_broken-append typed formula) refl
 
 there_is : (o : Option Linear) → IsThere o → (row : Linear) × (o ≡ Some row)
 there_is None h = absurd h
 there_is (Some row) h = (row, refl)
 
-kept_row : (row : Linear) (place : Place) → passed_row (Some row) place ≡ [] → keeps_row row ≡ true
-kept_row row place e = not_false (keeps_row row) (unless_nil (not (keeps_row row)) _ e)
+kept_row : (o : Option Linear) (row : Linear) (place : Place) → passed_row o place ≡ [] → carried_row o ≡ Some row → keeps_row row ≡ true
+kept_row None row place e f = cc
+kept_row (Some exact) row place e f =
+    let kept = not_false (keeps_row exact) (unless_nil (not (keeps_row exact)) _ e) in
+    let same : Some exact ≡ Some row = rw (kept_row_is_carried exact kept) at f in
+    subst (λ (r : Linear). keeps_row r ≡ true) (some_is exact row same) kept
+  where
+    some_is : (a b : Linear) → Some a ≡ Some b → a ≡ b
+    some_is a b g = cc
 
--- a sum that breaks no rule has a row that keeps its limits
+kept_number : (o : Option Value) (row : Linear) → is_kept o ≡ true → row_of_value o ≡ Some row → (row.factors ≡ []) × (is_within row.constant ≡ true)
+kept_number None row e f = cc
+kept_number (Some (value.Truth b)) row e f = cc
+kept_number (Some (value.Whole z)) row e f = by row f
+  where
+    by : (r : Linear) → Some (constant_row z) ≡ Some r → (r.factors ≡ []) × (is_within r.constant ≡ true)
+    by r g = let same : constant_row z ≡ r = cc in subst (λ (x : Linear). (x.factors ≡ []) × (is_within x.constant ≡ true)) same (refl, e)
+
+-- what breaks no rule keeps its limits
+sum_keeps : (names : Names) (values : List (Option Value)) (t : Term) (row : Linear) → AreKept values → type_in names t ≡ Some Int →
+    formula_faults names values t ≡ [] → row_in names values t ≡ Some row → KeepsLimits (is_varying names t) row
+sum_keeps names values t row kept ty f e = by (is_varying names t) refl
+  where
+    by : (b : Bool) → is_varying names t ≡ b → KeepsLimits b row
+    by true v =
+        let own = varying_faults names values t v f in
+        kept_row (exact_row names values t) row (first_place t) own.0 (rw v at e)
+    by false v =
+        let exact = exact_value names values t in
+        let within = kept_exact names values t kept (rw (v, ty) at f) in
+        kept_number exact row within (rw (v, kept_is_carried exact within) at e)
+
+-- a sum that breaks no rule has a row
 pub sound_sum : (names : Names) (values : List (Option Value)) (t : Term) → HaveValues names.constants values → AreKept values → is_sum names t ≡ true →
     first_broken (sum_faults names values t) ≡ None → (row : Linear) × IsSumRow names values t row
 sound_sum names values t have kept s e =
     let typed = mismatch (Some Int) (type_in names t) (first_place t) in
-    let own = equation_row names values t in
     let formula = formula_faults names values t in
     let none : sum_faults names values t ≡ [] = unbroken (sum_faults names values t) e in
-    let sound = front_nil (faults_in names t) (typed ++ (own ++ formula)) none in
-    let behind = back_nil (faults_in names t) (typed ++ (own ++ formula)) none in
-    let whole = operand_type names t Int (first_place t) sound (front_nil typed (own ++ formula) behind) in
-    let last = back_nil typed (own ++ formula) behind in
-    let found = there_is (row_in names values t) (there_sum names values t have kept s sound whole (back_nil own formula last)) in
-    let limits : passed_row (Some found.0) (first_place t) ≡ [] = rw found.1 at (front_nil own formula last) in
-    (found.0, record { sound = none; found = found.1; kept = kept_row found.0 (first_place t) limits })
+    let sound = front_nil (faults_in names t) (typed ++ formula) none in
+    let behind = back_nil (faults_in names t) (typed ++ formula) none in
+    let whole = operand_type names t Int (first_place t) sound (front_nil typed formula behind) in
+    let last = back_nil typed formula behind in
+    let found = there_is (row_in names values t) (there_sum names values t have kept s sound whole last) in
+    (found.0, record { sound = none; found = found.1; kept = sum_keeps names values t found.0 kept whole last found.1 })

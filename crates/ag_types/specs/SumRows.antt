@@ -1,5 +1,5 @@
 -- What the numbered row of a sum can hold, and what the constants of a scope have for values.
-use Rattle.std.specs.Prelude.{◌≡◌, ℕ, true, List, [], map, length, take, Option, Some, None, slice_get, slice_index_or}
+use Rattle.std.specs.Prelude.{◌≡◌, ℕ, Bool, true, false, List, [], map, length, take, Option, Some, None, slice_get, slice_index_or}
 use Rattle.std.specs.List.{filter}
 use Rattle.ag_stream.specs.declared.problem.Row.{Row}
 use Rattle.ag_stream.specs.declared.problem.RowTerm.{RowTerm}
@@ -10,6 +10,7 @@ use Rattle.ag_annex.specs.declared.terms.Term.{Term}
 use Rattle.ag_types.specs.declared.value.Factor.{Factor}
 use Rattle.ag_types.specs.declared.value.Value.{Value}
 use Rattle.ag_types.specs.declared.value.Value.TheVariants as value
+use Rattle.ag_types.specs.Constants.{is_varying, is_within}
 use Rattle.ag_types.specs.Rows.{Linear, is_factor, keeps_row, row_in}
 use Rattle.ag_types.specs.Seen.{Names}
 use Rattle.ag_types.specs.Sums.{is_whole, sum_faults}
@@ -35,11 +36,16 @@ IsValueOf ty o = ⊥
 abbrev pub HaveValues : List Var → List (Option Value) → Type 0
 HaveValues constants values = (k : ℕ) (v : Var) → slice_get constants k ≡ Some v → IsValueOf v.ty (slice_index_or values k None)
 
+-- the row of what isn't constant keeps the limits of rows; of a constant it is a number that keeps the limit of constants
+abbrev pub KeepsLimits : Bool → Linear → Type 0
+KeepsLimits true row = keeps_row row ≡ true
+KeepsLimits false row = (row.factors ≡ []) × (is_within row.constant ≡ true)
+
 -- an integer sum that breaks no rule, and its row
 pub record IsSumRow (names : Names) (values : List (Option Value)) (t : Term) (row : Linear) : Type 0 where
   pub sound : sum_faults names values t ≡ []
   pub found : row_in names values t ≡ Some row
-  pub kept : keeps_row row ≡ true
+  pub kept : KeepsLimits (is_varying names t) row
 
 -- a position among all streams as one among the integer ones
 abbrev pub numbered : Names → Factor → RowTerm

@@ -1,10 +1,11 @@
 -- The row of an integer expression that is a sum of streams.
-use Rattle.std.specs.Prelude.{◌≡◌, ℕ, zero, suc, Bool, true, false, not, ◌&&◌, ◌||◌, List, [], ◌++◌, map, length, Option, Some}
+use Rattle.std.specs.Prelude.{◌≡◌, ◌≤◌, ◌^◌, ℕ, zero, suc, Bool, true, false, not, ◌&&◌, ◌||◌, List, [], ◌++◌, map, length, Option, Some}
 use Rattle.std.specs.List.{filter}
 use Rattle.ag_base.specs.declared.place.Refusal.{Refusal}
 use Rattle.ag_stream.specs.declared.problem.Instant.{Instant}
 use Rattle.ag_stream.specs.declared.problem.Row.{Row}
 use Rattle.ag_stream.specs.Forms.{IsRow}
+use Rattle.ag_stream.specs.Runs.{magnitude}
 use Rattle.ag_stream.specs.Values.{Moment, nothing, row_value}
 use Rattle.ag_annex.specs.declared.clauses.Ty.TheVariants.{Int, Bool as Boolean}
 use Rattle.ag_annex.specs.declared.clauses.Var.{Var}
@@ -15,7 +16,7 @@ use Rattle.ag_annex.specs.declared.terms.Unary.TheVariants as unary
 use Rattle.ag_types.specs.declared.value.Value.{Value}
 use Rattle.ag_types.specs.Constants.{is_varying, is_stream}
 use Rattle.ag_types.specs.Meaning.{Reading, Run, stream_of, is_true, worth}
-use Rattle.ag_types.specs.NumberFaults.{side_faults}
+use Rattle.ag_types.specs.NumberFaults.{formula_faults}
 use Rattle.ag_types.specs.Places.{first_place, first_broken}
 use Rattle.ag_types.specs.Seen.{Seen, Names, names_seen, sought}
 use Rattle.ag_types.specs.Types.{type_in, faults_in, mismatch}
@@ -62,17 +63,22 @@ abbrev pub moment_of : Reading → Run → ℕ → Moment
 moment_of r run zero = record { first = true; before = nothing; now = instant_of r run zero }
 moment_of r run (suc before) = record { first = false; before = instant_of r run before; now = instant_of r run (suc before) }
 
--- all that an expression breaks that is to be the whole right side of an integer's equation
+-- all that an expression breaks that is to have a row
 abbrev pub sum_faults : Names → List (Option Value) → Term → List Refusal
-sum_faults names values t = faults_in names t ++ (mismatch (Some Int) (type_in names t) (first_place t) ++ side_faults names values t)
+sum_faults names values t = faults_in names t ++ (mismatch (Some Int) (type_in names t) (first_place t) ++ formula_faults names values t)
 
--- the row of an expression in a scope: it breaks no rule, its row is in order and within the limits, and in every run, wherever the scope's
+-- an expression that isn't constant has a row in order and within the limits of rows; the row of a constant is a number within the limit of constants
+abbrev pub IsWithinLimits : Bool → ℕ → Row → Type 0
+IsWithinLimits true ints row = IsRow ints row
+IsWithinLimits false ints row = (row.terms ≡ []) × (magnitude row.constant ≤ 2 ^ 62)
+
+-- the row of an expression in a scope: it breaks no rule, its row is in order and within its limits, and in every run, wherever the scope's
 -- clauses stand, that is worth what the expression is worth
 pub record IsRowOf (s : Seen) (t : Term) (row : Row) : Type 0 where
   pub values : List (Option Value)
   pub valued : AreValues s values
   pub sound : sum_faults (names_seen s) values t ≡ []
-  pub formed : IsRow (length (whole_streams (names_seen s))) row
+  pub formed : IsWithinLimits (is_varying (names_seen s) t) (length (whole_streams (names_seen s))) row
   pub worth_of : (r : Reading) → r.names ≡ names_seen s → r.values ≡ values → (run : Run) (at : ℕ) → row_value (moment_of r run at) row ≡ worth r run t at
 
 -- or the first rule that it breaks

@@ -1,16 +1,14 @@
 //! The row of an integer expression that is a sum of streams.
 ghost use Rattle.std.specs.Prelude.{◌≡◌, ◌≤◌, length, map, Err, IsTrue, IfOk, IfErr, All, Some};
-ghost use Rattle.ag_types.specs.Rows.{keeps_row};
 ghost use Rattle.ag_base.specs.declared.place.Refusal.{Refusal};
 ghost use Rattle.ag_base.specs.declared.place.Refused.TheVariants.{Model};
-ghost use Rattle.ag_types.specs.Constants.{AreKept};
+ghost use Rattle.ag_types.specs.Constants.{is_within, AreKept};
 ghost use Rattle.ag_types.specs.Places.{first_broken};
 ghost use Rattle.ag_types.specs.Seen.{names_seen};
 ghost use Rattle.ag_types.specs.RowOrder.{AreInOrder};
 ghost use Rattle.ag_types.specs.Sums.{is_sum, whole_streams, sum_faults, IsRowOf, IsNoRow};
 ghost use Rattle.ag_types.specs.SumRows.{HaveValues, IsSumRow, IsTerm, numbered, numbered_row};
 
-use crate::numbered::own_equation;
 use crate::numbers::numbered;
 use crate::places::either;
 use crate::rows::Linear;
@@ -34,6 +32,8 @@ pub fn is_sum(scope: &Scope<'_>, term: &Term) -> bool
 
 /// The row of an integer expression that is a sum, or the first rule that it breaks. Streams are numbered by
 /// their position among the scope's integer streams: those of ports, then those that `eq` declares, in order.
+/// A row's constant has a magnitude of at most 2^48, its factors have one of at most 2^31, and it has at most
+/// 1,024 terms; a constant expression has a number alone, of a magnitude of at most 2^62.
 pub fn linear(alloc: Global, scope: &Scope<'_>, term: &Term) -> Result<Row, Refused>
     requires sum { IsTrue (is_sum (names_seen scope.now) term.now) }
     requires streams { length (whole_streams (names_seen scope.now)) ≤ 65536 }
@@ -78,9 +78,8 @@ fn sum_row(
 {
     let typing = typing(sight, term);
     let numbered = numbered(alloc, sight, values, term)?;
-    let of_side = either(own_equation(&numbered), numbered.broken);
     let of_type = mismatch(Some(Ty::Int), typing.ty, typing.first);
-    let broken = either(typing.broken, either(of_type, of_side));
+    let broken = either(typing.broken, either(of_type, numbered.broken));
     match (broken, numbered.row) {
         (Some(refusal), _) => Ok(Err(refusal)),
         (None, Some(row)) => Ok(Ok(row)),
@@ -90,7 +89,7 @@ fn sum_row(
 
 fn numbered_row(alloc: Global, scope: &Scope<'_>, row: &Linear) -> Result<Row, OutOfMemory>
     requires streams { length (whole_streams (names_seen scope.now)) ≤ 65536 }
-    requires kept { IsTrue (keeps_row row.now) }
+    requires kept { IsTrue (is_within row.now.constant) }
     requires terms { All (IsTerm (names_seen scope.now).streams) row.now.factors }
     ensures ok { IfOk result (λ r. r ≡ numbered_row (names_seen scope.now) row.now) }
     // The type of rows keeps their factors in order.

@@ -1,8 +1,17 @@
 -- The numbered row of the sum, or the first broken rule.
 use Rattle.ag_types.specs.Seen.{names_seen}
 use Rattle.ag_types.specs.SumRows.{IsSumRow}
-use Rattle.ag_types.proofs.NumberedRows.{sum_row_of, refusal_of, sum_terms, is_row, is_no_row}
+use Rattle.ag_types.proofs.NumberedRows.{sum_row_of, refusal_of, sum_constant, sum_terms, is_row, is_no_row}
 use Rattle.ag_types.proofs.sum_rows.row_or_refusal.Goals as goal
+
+pub numbered_row-requires-clause-kept : goal.numbered_row-requires-clause-kept
+numbered_row-requires-clause-kept c =
+    let names = names_seen c.args.scope.now in
+    let values = c.values.result.now in
+    let term = c.args.term.now in
+    let found : IsSumRow names values term c.in-Ok.row =
+    sum_row_of _ names values term _ c.in-Ok.row c.sight.ensures c.in-Ok.is c.in_ok-row.ensures.ok in
+    sum_constant names values term c.in-Ok.row found
 
 pub numbered_row-requires-clause-terms : goal.numbered_row-requires-clause-terms
 numbered_row-requires-clause-terms c =

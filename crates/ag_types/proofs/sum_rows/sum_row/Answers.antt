@@ -13,8 +13,8 @@ unreachable-requires c =
     let term = c.args.term.now in
     let typed = c.typing-typing.ensures in
     let broken : first_broken (sum_faults names values term) ≡ c.either-broken.result =
-    broken_by names values term _ _ _ _ _ _ _ _ _ c.in_ok-numbered.ensures typed.ty typed.first typed.broken c.mismatch-of_type.ensures
-    c.own_equation.ensures c.either-of_side.ensures c.either.ensures c.either-broken.ensures in
+    broken_by names values term _ _ _ _ _ _ _ c.in_ok-numbered.ensures typed.ty typed.first typed.broken c.mismatch-of_type.ensures
+    c.either.ensures c.either-broken.ensures in
     no_row names values term _ c.in_ok-numbered.ensures c.in-None-None.is-1
     (sound_sum names values term c.requires.typed c.requires.kept c.requires.sum (broken ∙ c.in-None-None.is-0))
 
@@ -25,8 +25,8 @@ returns-in-Some-default-clause-refused c =
     let term = c.args.term.now in
     let typed = c.typing-typing.ensures in
     let broken : first_broken (sum_faults names values term) ≡ c.either-broken.result =
-    broken_by names values term _ _ _ _ _ _ _ _ _ c.in_ok-numbered.ensures typed.ty typed.first typed.broken c.mismatch-of_type.ensures
-    c.own_equation.ensures c.either-of_side.ensures c.either.ensures c.either-broken.ensures in
+    broken_by names values term _ _ _ _ _ _ _ c.in_ok-numbered.ensures typed.ty typed.first typed.broken c.mismatch-of_type.ensures
+    c.either.ensures c.either-broken.ensures in
     broken ∙ c.in-Some-default.is-0
 
 pub returns-in-None-Some-clause-ok : goal.returns-in-None-Some-clause-ok
@@ -36,7 +36,7 @@ returns-in-None-Some-clause-ok c =
     let term = c.args.term.now in
     let typed = c.typing-typing.ensures in
     let broken : first_broken (sum_faults names values term) ≡ c.either-broken.result =
-    broken_by names values term _ _ _ _ _ _ _ _ _ c.in_ok-numbered.ensures typed.ty typed.first typed.broken c.mismatch-of_type.ensures
-    c.own_equation.ensures c.either-of_side.ensures c.either.ensures c.either-broken.ensures in
+    broken_by names values term _ _ _ _ _ _ _ c.in_ok-numbered.ensures typed.ty typed.first typed.broken c.mismatch-of_type.ensures
+    c.either.ensures c.either-broken.ensures in
     found_row names values term _ c.in-None-Some.row c.in_ok-numbered.ensures c.in-None-Some.is-1
     (sound_sum names values term c.requires.typed c.requires.kept c.requires.sum (broken ∙ c.in-None-Some.is-0))
