@@ -1,5 +1,5 @@
 -- A derivation taken apart, symbol by symbol.
-use Rattle.std.proofs.Common.{◌≡◌, ◌<◌, ◌≤◌, ◌⊎◌, inl, inr, ℕ, zero, suc, List, [], ◌∷◌, ◌++◌, Some, length, map, slice_get, slice_index_or, refl, sym, ap, subst, ◌∙◌, arith}
+use Rattle.std.proofs.Common.{◌≡◌, ◌<◌, ◌⊎◌, inl, inr, ℕ, zero, suc, List, [], ◌∷◌, ◌++◌, Some, length, map, slice_get, slice_index_or, refl, sym, ap, subst, arith}
 use Rattle.ag_grammar.specs.declared.grammar.Step.{Step}
 use Rattle.ag_grammar.specs.declared.grammar.Step.TheVariants.{Expand, Shift}
 use Rattle.ag_grammar.specs.declared.grammar.Symbol.{Symbol}
@@ -148,7 +148,3 @@ pub record Parsed (Kind : List Marked → Type 0) (symbols : List Symbol) (token
 -- each derivation of it with less steps is so
 abbrev pub Parser : ℕ → ℕ → (List Marked → Type 0) → Type 0
 Parser bound n Kind = (symbols : List Symbol) (a : At (Nonterminal n ∷ symbols)) → size a < bound → Parsed Kind symbols (left a) (size a)
-
--- the same in other words
-pub reparsed : (Kind : List Marked → Type 0) (symbols : List Symbol) (tokens others : List Marked) (bound more : ℕ) → others ≡ tokens → bound ≤ more → Parsed Kind symbols tokens bound → Parsed Kind symbols others more
-reparsed Kind symbols tokens others bound more e h p = record { front = p.front; kind = p.kind; to = p.to; parts = e ∙ p.parts; shorter = let k = p.shorter in omega (arith, k) }

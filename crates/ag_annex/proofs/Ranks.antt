@@ -27,13 +27,6 @@ left_of r = if r == comparison then suc r else (if nat_lt last_right r then r el
 
 -- ---- numbers
 
--- an operand on the right binds at least as tightly as the operator
-pub right_least : (r : ℕ) → r ≤ right_of r
-right_least r = elim (cases_lt last_right r) [
-  | inl h ↦ let e : right_of r ≡ suc r = ap (λ (b : Bool). if b then suc r else r) (lt-ltb last_right r h) in omega (arith, e)
-  | inr h ↦ let e : right_of r ≡ r = ap (λ (b : Bool). if b then suc r else r) (le-ltb last_right r h) in omega (arith, e)
-]
-
 -- and at most one rank tighter
 pub right_most : (r : ℕ) → right_of r ≤ suc r
 right_most r = elim (cases_lt last_right r) [

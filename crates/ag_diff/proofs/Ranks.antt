@@ -168,16 +168,6 @@ down_more vs ws at path rest e r is same low way =
       short = omega (arith, same.count, ap (λ (es : List Edge). length es) is, length_push rest e);
     }
 
--- at the end
-pub down_end : (vs : List Vertex) (at : ℕ) (path : List Edge) (r : ℕ) → path ≡ [] → IsWayDown vs at path r → (vertex_at vs at).rank < length vs
-down_end vs at path r is way =
-    let L : List Edge → Type 0 = λ es. Leads at es way.now in
-    let here : at ≡ way.now = subst L is way.leads in
-    let same : (vertex_at vs at).rank ≡ (vertex_at vs way.now).rank = ap (λ (n : ℕ). (vertex_at vs n).rank) here in
-    let low = way.low in
-    let short = way.short in
-    omega (arith, same)
-
 pub same_twice : (us vs ws : List Vertex) → SameButRanks us vs → SameButRanks vs ws → SameButRanks us ws
 same_twice us vs ws a b = record {
   count = b.count ∙ a.count;

@@ -1,5 +1,5 @@
 -- The rows of a cycle add up to no term and a negative bound.
-use Rattle.std.proofs.Common.{◌≡◌, ℕ, ◌<◌, ◌==◌, ℤ, pos, ◌+ℤ◌, ◌-ℤ◌, ◌*ℤ◌, ◌<ℤ◌, Bool, true, false, cond, List, [], ◌∷◌, map, refl, sym, ap, ◌∙◌, arith, All, Option, None, suc}
+use Rattle.std.proofs.Common.{◌≡◌, ℕ, ◌<◌, ◌==◌, ℤ, pos, ◌-ℤ◌, ◌*ℤ◌, ◌<ℤ◌, Bool, true, false, cond, List, [], ◌∷◌, map, refl, sym, ap, ◌∙◌, arith, All, Option, None, suc}
 use Rattle.std.specs.Prelude.{negsuc, unwrap_or}
 use Rattle.std.specs.Option.{option_map}
 use Rattle.std.specs.Int.{is_negative}
@@ -25,9 +25,6 @@ pub row_once_is : (base : ℕ) (atoms : List Atom) (e : Edge) (h : IsSaid base a
 row_once_is base atoms e h = ap (λ (o : Option LRow). unwrap_or (option_map (row_said e.lit) o) (record { terms = []; bound = pos 0 })) h.is_row
 
 -- ---- telescoping
-
-one_more : (a b c m : ℤ) → pos 1 *ℤ (a -ℤ b) +ℤ (b -ℤ c) ≡ a -ℤ c
-one_more a b c m = omega (arith, ints)
 
 pub sums_along : (base : ℕ) (atoms : List Atom) (x : ℕ → ℤ) (v : ℕ) (es : List Edge) (at : ℕ) → x base ≡ pos 0 → All (IsSaid base atoms) es → Leads v es at → total (λ r. sum_of x r.terms) (map (row_once atoms) es) ≡ x v -ℤ x at
 sums_along base atoms x v [] at z all h =

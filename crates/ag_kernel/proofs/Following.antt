@@ -1,11 +1,10 @@
 -- Each rule's line follows.
-use Rattle.std.proofs.Common.{◌≡◌, inl, inr, ℕ, ◌<◌, Bool, true, false, not, ◌&&◌, ◌||◌, List, [], ◌∷◌, length, map, get_or, refl, sym, ap, subst, ◌∙◌, arith, All, Option, Some, None, cond}
-use Rattle.std.specs.Prelude.{IsNone, is_none, nat_le, find}
+use Rattle.std.proofs.Common.{◌≡◌, inl, inr, ℕ, ◌<◌, Bool, true, false, not, ◌&&◌, ◌||◌, List, [], length, map, get_or, refl, sym, ap, subst, ◌∙◌, All, Option, Some, None}
+use Rattle.std.specs.Prelude.{IsNone, is_none}
 use Rattle.std.specs.List.{list_any}
 use Rattle.std.specs.Bool.{beq}
 use Rattle.std.proofs.lemmas.Bool.{cases_Bool, false≢true}
-use Rattle.std.proofs.lemmas.Bool.Decides.{nat_tests}
-use Rattle.std.proofs.lemmas.List.Elements.{All-cons, All-nil, All-map, All-filter}
+use Rattle.std.proofs.lemmas.List.Elements.{All-nil, All-map, All-filter}
 use Rattle.ag_query.specs.declared.rows.Atom.{Atom}
 use Rattle.ag_query.specs.declared.rows.LRow.{LRow}
 use Rattle.ag_query.specs.declared.clauses.Lit.{Lit}
@@ -14,7 +13,6 @@ use Rattle.ag_kernel.specs.declared.line.Line.{Line}
 use Rattle.ag_kernel.specs.State.{State, IsRowIn, IsLineOf, IsSound}
 use Rattle.ag_kernel.specs.Sets.{joined, without}
 use Rattle.ag_kernel.specs.Rules.{line_at, yes as yes_of, no as no_of, splits, either_row, resolvent, resolved, can_resolve, CanConclude}
-use Rattle.ag_kernel.specs.Faults.{first_missing}
 use Rattle.ag_kernel.proofs.SetLemmas.{any_joined}
 use Rattle.ag_kernel.proofs.Truths.{or_cases, or_left, or_right, any_without, All-joined, concluded}
 
@@ -128,17 +126,6 @@ resolved_line s atom a b ha hb can =
     ]
 
 -- ---- the named lines are there
-
-no_number : (n : ℕ) → Some n ≡ None → ⊥
-no_number n e = cc
-
-pub all_there : (count : ℕ) (named : List ℕ) → first_missing count named ≡ None → All (λ n. n < count) named
-all_there count [] e = All-nil (λ n. n < count)
-all_there count (n ∷ ns) e = by (nat_le count n) refl e (all_there count ns)
-  where
-    by : (b : Bool) → nat_le count n ≡ b → cond b (Some n) (find (λ m. nat_le count m) ns) ≡ None → (first_missing count ns ≡ None → All (λ m. m < count) ns) → All (λ m. m < count) (n ∷ ns)
-    by true t e rest = absurd (no_number n e)
-    by false f e rest = All-cons (λ m. m < count) n ns (grind (arith, nat_tests)) (rest e)
 
 -- a line that was read
 pub line_here : (s : State) (lines : List Line) (n : ℕ) (x : Line) → IsSound s → lines ≡ s.lines → n < length lines → x ≡ get_or lines n x → IsLineOf s x

@@ -24,12 +24,6 @@ sum_push x ts t = let e = sum_append x ts (t ∷ []) in omega (arith, ints)
 pub sum_cut : (x : ℕ → ℤ) (n : ℕ) (ts : List LTerm) → sum_of x (take n ts) +ℤ sum_of x (drop n ts) ≡ sum_of x ts
 sum_cut x n ts = sym (sum_append x (take n ts) (drop n ts)) ∙ ap (sum_of x) (take-append-drop n ts)
 
-pub sum_zero : (x : ℕ → ℤ) (ts : List LTerm) (t : LTerm) → t.factor ≡ pos 0 → sum_of x ts ≡ sum_of x ts +ℤ t.factor *ℤ x t.var
-sum_zero x ts t e =
-    let z : pos 0 *ℤ x t.var ≡ pos 0 = omega (arith, ints) in
-    let p : t.factor *ℤ x t.var ≡ pos 0 = ap (λ (f : ℤ). f *ℤ x t.var) e ∙ z in
-    omega (arith, ints)
-
 add_times : (a b c : ℤ) → (a +ℤ b) *ℤ c ≡ a *ℤ c +ℤ b *ℤ c
 add_times a b c =
     let above = ap (λ (n : ℕ). n * up c) (sum_is_lem a b) in

@@ -3,7 +3,7 @@ use Rattle.std.proofs.Common.{◌≡◌, ◌≢◌, inl, inr, ℕ, ◌<◌, ◌=
 use Rattle.std.specs.List.{list_any}
 use Rattle.std.specs.Bool.{beq}
 use Rattle.std.proofs.lemmas.List.Elements.{All-head, All-tail}
-use Rattle.std.proofs.lemmas.Bool.{cases_Bool, cases_lt, eqb-true, eq-eqb, ne_eqb, false≢true}
+use Rattle.std.proofs.lemmas.Bool.{cases_Bool, cases_lt, eqb-true, ne_eqb, false≢true}
 use Rattle.std.proofs.lemmas.List.{get_or_append_left, get_or_push, length_push}
 use Rattle.ag_query.specs.declared.clauses.Lit.{Lit}
 use Rattle.ag_kernel.specs.declared.marks.Mark.{Mark}
@@ -45,19 +45,12 @@ beq_same true false e = absurd (false≢true e)
 beq_same false true e = absurd (false≢true e)
 beq_same false false e = refl
 
-beq_itself : (a : Bool) → beq a a ≡ true
-beq_itself true = refl
-beq_itself false = refl
-
 pub same_is : (l m : Lit) → same l m ≡ true → l ≡ m
 same_is l m e =
     let p = and_cases (l.atom == m.atom) (beq l.holds m.holds) e in
     let a : l.atom ≡ m.atom = eqb-true l.atom m.atom p.0 in
     let h : l.holds ≡ m.holds = beq_same l.holds m.holds p.1 in
     ap (λ (n : ℕ). record { atom = n; holds = l.holds }) a ∙ ap (λ (b : Bool). record { atom = m.atom; holds = b }) h
-
-pub same_itself : (l : Lit) → same l l ≡ true
-same_itself l = let e : (l.atom == l.atom) ≡ true = eq-eqb l.atom l.atom refl in rw (e, beq_itself l.holds) refl
 
 or_assoc : (a b c : Bool) → (a || b) || c ≡ a || (b || c)
 or_assoc true b c = refl
@@ -116,7 +109,3 @@ any_joined p lits (l ∷ ls) =
 pub any_agree : {X : Type 0} (p q : X → Bool) → ((x : X) → p x ≡ q x) → (xs : List X) → list_any p xs ≡ list_any q xs
 any_agree p q h [] = refl
 any_agree p q h (x ∷ xs) = rw (h x, any_agree p q h xs) refl
-
-pub joined_append : (lits a b : List Lit) → joined lits (a ++ b) ≡ joined (joined lits a) b
-joined_append lits [] b = refl
-joined_append lits (l ∷ ls) b = joined_append (with_literal lits l) ls b

@@ -71,24 +71,6 @@ more_step (m ∷ ms) list lines e = by (list_all (same m) ms) e
 pub step_more : (list line : List Lit) (lines : List (List Lit)) → More ≡ left_as (left_of list line) → conflict_along list lines ≡ conflict_along list (line ∷ lines)
 step_more list line lines e = more_step (left_of list line) list lines e
 
-nothing_step : (xs : List Lit) (t : Bool) → Nothing ≡ left_as xs → is_conflict xs || t ≡ true
-nothing_step [] t e = refl
-nothing_step (m ∷ ms) t e = by (list_all (same m) ms) e
-  where
-    one : Nothing ≡ One m → ⊥
-    one e = cc
-
-    more : Nothing ≡ More → ⊥
-    more e = cc
-
-    by : (b : Bool) → Nothing ≡ cond b (One m) More → t ≡ true
-    by true e = absurd (one e)
-    by false e = absurd (more e)
-
--- a line of which nothing is left is a conflict
-pub step_nothing : (list line : List Lit) (lines : List (List Lit)) → Nothing ≡ left_as (left_of list line) → conflict_along list (line ∷ lines) ≡ true
-step_nothing list line lines e = nothing_step (left_of list line) (conflict_along (drawn (left_of list line) ++ list) lines) e
-
 one_of : (P : Lit → Type 0) (xs : List Lit) (l : Lit) → All P xs → One l ≡ left_as xs → P l
 one_of P [] l h e = absurd (apart l e)
   where
@@ -119,9 +101,6 @@ walk_one f named i lt list line whole l is so e = step_one list line (map f (dro
 
 pub walk_more : (f : ℕ → List Lit) (named : List ℕ) (i : ℕ) → i < length named → (list line : List Lit) (whole : Bool) → line ≡ f (get_or named i 0) → conflict_along list (map f (drop i named)) ≡ whole → More ≡ left_as (left_of list line) → conflict_along list (map f (drop (i + 1) named)) ≡ whole
 walk_more f named i lt list line whole is so e = step_more list line (map f (drop (i + 1) named)) e ∙ next_line f named i lt list line whole is so
-
-pub walk_nothing : (f : ℕ → List Lit) (named : List ℕ) (i : ℕ) → i < length named → (list line : List Lit) (whole : Bool) → line ≡ f (get_or named i 0) → conflict_along list (map f (drop i named)) ≡ whole → Nothing ≡ left_as (left_of list line) → true ≡ whole
-walk_nothing f named i lt list line whole is so e = sym (step_nothing list line (map f (drop (i + 1) named)) e) ∙ next_line f named i lt list line whole is so
 
 pub begun_true : (lits clause : List Lit) (lines : List (List Lit)) → lits ≡ joined [] (map contrary clause) → true ≡ list_any (has lits) clause → true ≡ comes_to_conflict clause lines
 begun_true lits clause lines is e =

@@ -63,9 +63,6 @@ three_on file before place e =
     let bytes : ((before ++ 123 ∷ []) ++ 42 ∷ []) ++ 42 ∷ [] ≡ before ++ codes "{**" = simp append_assoc in
     ap (λ (n : ℕ). record { file = place.file; line = place.line; column = n }) count ∙ three ∙ ap (place_of file) bytes
 
-abbrev kind_of : Token → TokenKind
-kind_of t = t.kind
-
 pub marks : (bytes : List ℕ) (annex : Token) → IsAnnexOf bytes annex → Marks bytes annex
 marks bytes annex a =
     let file = a.file in

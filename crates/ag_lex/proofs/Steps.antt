@@ -120,10 +120,6 @@ pub record IsDone (l : Language) (start : Cursor) (bytes : List ℕ) (cursor : C
   pub within : cursor.at ≤ length bytes
   pub placed : cursor.place ≡ place_of start.place.file (take cursor.at bytes)
 
-pub done_none : (l : Language) (start : Cursor) (bytes : List ℕ) → start.at ≤ length bytes → start.place ≡ place_of start.place.file (take start.at bytes) → IsDone l start bytes start []
-done_none l start bytes within placed =
-    record { pieces = []; read = refl; fine = tt; told = refl; behind = sym (append-nil (take start.at bytes)); forward = omega arith; within = within; placed = placed }
-
 pub done_more : (l : Language) (start : Cursor) (bytes : List ℕ) (cursor next : Cursor) (old new : List Token) → IsDone l start bytes cursor old → IsNext l bytes cursor next old new → IsDone l start bytes next new
 done_more l start bytes cursor next old new d n =
     let file = file_is start.place.file (take cursor.at bytes) cursor.place d.placed in

@@ -315,9 +315,6 @@ all_of_item (item.Library t) clauses = refl
 pub import_marks : (i : Ident) → marks_within class_set (behind_first (import_line i)) ≡ true
 import_marks i = join_marks class_set (pname_words i) semicolon (wider name_set class_set (pname_words i) refl (parts_marks (package_parts (Some i)))) refl
 
-name_marks : (p : Package) → marks_within package_set (pname_words p.name) ≡ true
-name_marks p = wider name_set package_set (pname_words p.name) refl (parts_marks (package_parts (Some p.name)))
-
 pub head_marks : (p : Package) → marks_within class_set (behind_first (head_words p)) ≡ true
 head_marks p = join_marks class_set (pname_words p.name) (word (codes "public") ∷ []) (wider name_set class_set (pname_words p.name) refl (parts_marks (package_parts (Some p.name)))) refl
 

@@ -1,11 +1,9 @@
 -- Words and lines that are written one behind the other.
-use Rattle.std.proofs.Common.{◌≡◌, ℕ, ◌+◌, ◌<◌, Bool, true, false, cond, ◌&&◌, ◌||◌, eqb, List, [], ◌∷◌, ◌++◌, length, get_or, take, map, Result, refl, sym, ap, ◌∙◌, inl, inr, arith}
+use Rattle.std.proofs.Common.{◌≡◌, ℕ, ◌+◌, ◌<◌, Bool, true, false, cond, ◌&&◌, ◌||◌, eqb, List, [], ◌∷◌, ◌++◌, length, get_or, take, map, Result, refl, sym, ap, ◌∙◌, inl, inr}
 use Rattle.std.specs.Prelude.{codes}
-use Rattle.std.specs.List.{flat_map}
 use Rattle.std.proofs.lemmas.Bool.{cases_Bool, and_parts, eqb-true}
 use Rattle.std.specs.Result.{OnOk}
 use Rattle.std.proofs.lemmas.Result.{on_ok_weaker}
-use Rattle.std.proofs.lemmas.Grind.{flat_map-append}
 use Rattle.std.proofs.lemmas.List.{append_assoc, append-nil, map-append, take_more}
 use Rattle.ag_print.specs.Layout.{Word, joins_before, joins_behind, words_bytes, line_bytes, text_bytes}
 use Rattle.ag_print.specs.Written.{Written, nothing, name_word, with_word, with_words, with_end, with_lines}
@@ -13,7 +11,7 @@ use Rattle.ag_aadl.specs.Marks.{join_mark, part_mark}
 use Rattle.ag_aadl.specs.Names.{put_before, name_parts}
 use Rattle.ag_annex.specs.declared.clauses.Clause.{Clause}
 use Rattle.ag_unparse.specs.Canonical.{clauses_text}
-use Rattle.ag_print.specs.Canonical.{Spelled, name_at, sign_at, parts_words, more_parts, section, annex_bytes, annex_word}
+use Rattle.ag_print.specs.Canonical.{Spelled, name_at, sign_at, parts_words, more_parts, annex_bytes, annex_word}
 
 pub words_more : (s : Written) (xs ys : List Spelled) → with_words s (xs ++ ys) ≡ with_words (with_words s xs) ys
 words_more s [] ys = refl
@@ -145,14 +143,6 @@ lines_both s t u xs ys first second = second ∙ ap (λ (w : Written). with_line
 pub lines_of : {T E : Type 0} (r : Result T E) (s t u : Written) (xs ys : List (List Spelled)) → t ≡ with_lines s xs → OnOk r (u ≡ with_lines t ys) → OnOk r (u ≡ with_lines s (xs ++ ys))
 lines_of r s t u xs ys first second = on_ok_weaker r (lines_both s t u xs ys first) second
 
--- the lines of one thing more
-pub things_more : {X : Type 0} (f : X → List (List Spelled)) (xs : List X) (i : ℕ) (x : X) (s t u : Written) → i < length xs → x ≡ get_or xs i x → t ≡ with_lines s (flat_map f (take i xs)) → u ≡ with_lines t (f x)
-    → u ≡ with_lines s (flat_map f (take (i + 1) xs))
-things_more f xs i x s t u lt is before added =
-    let all : flat_map f (take (i + 1) xs) ≡ flat_map f (take i xs) ++ (f x ++ []) =
-    ap (flat_map f) (take_more xs i x lt) ∙ flat_map-append f (take i xs) (get_or xs i x ∷ []) ∙ ap (λ y. flat_map f (take i xs) ++ (f y ++ [])) (sym is) in
-    lines_both s t u (flat_map f (take i xs)) (f x) before added ∙ ap (with_lines s) (ap (λ (z : List (List Spelled)). flat_map f (take i xs) ++ z) (sym (append-nil (f x))) ∙ sym all)
-
 -- one line more
 pub line_more : {X : Type 0} (f : X → List Spelled) (xs : List X) (i : ℕ) (x : X) (s t u : Written) → i < length xs → x ≡ get_or xs i x → t ≡ with_lines s (map f (take i xs)) → u ≡ with_lines t (f x ∷ [])
     → u ≡ with_lines s (map f (take (i + 1) xs))
@@ -160,12 +150,6 @@ line_more f xs i x s t u lt is before added =
     let all : map f (take (i + 1) xs) ≡ map f (take i xs) ++ (f x ∷ []) =
     ap (map f) (take_more xs i x lt) ∙ map-append f (take i xs) (get_or xs i x ∷ []) ∙ ap (λ y. map f (take i xs) ++ (f y ∷ [])) (sym is) in
     lines_both s t u (map f (take i xs)) (f x ∷ []) before added ∙ ap (with_lines s) (sym all)
-
--- lines under a heading
-pub section_written : {X : Type 0} (f : X → List Spelled) (heading : Spelled) (xs : List X) (s t u : Written) → 0 < length xs → t ≡ with_lines s ((heading ∷ []) ∷ []) → u ≡ with_lines t (map f xs)
-    → u ≡ with_lines s (section heading (map f xs))
-section_written f heading [] s t u some first second = absurd (omega arith)
-section_written f heading (x ∷ xs) s t u some first second = lines_both s t u ((heading ∷ []) ∷ []) (map f (x ∷ xs)) first second
 
 -- ---- what is written are the bytes of the lines
 

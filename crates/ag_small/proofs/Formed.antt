@@ -93,9 +93,6 @@ pub length_mapped : {A B : Type 0} (f : A → B) (xs : List A) → length (map f
 length_mapped f [] = refl
 length_mapped f (x ∷ xs) = ap suc (length_mapped f xs)
 
-pub length-formulas : (p : Package) → length (formulas p) ≡ length p.claims + length p.assigns
-length-formulas p = omega (arith, length-append (map (λ (c : Claim). c.formula) p.claims) (map (λ (a : Assign). a.value) p.assigns), length_mapped (λ (c : Claim). c.formula) p.claims, length_mapped (λ (a : Assign). a.value) p.assigns)
-
 pub length-parts : (p : Package) → length (all_parts p.ports 0 (formulas p)) ≡ parts_in (formulas p)
 length-parts p = length-all_parts p.ports 0 (formulas p)
 

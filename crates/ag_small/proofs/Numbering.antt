@@ -80,9 +80,6 @@ few_parts p kept = omega (arith, parts_in-formulas p, claim_parts_and_tokens p.c
 pub longer_by : (ports : List Port) (old new : List Part) (f : Formula) → new ≡ old ++ parts_of ports (length old) f → length new ≡ length old + part_count f
 longer_by ports old new f e = ap length e ∙ length-append old (parts_of ports (length old) f) ∙ omega (arith, length-parts_of ports (length old) f)
 
-pub put_one : (ports : List Port) (old new : List Part) (f : Formula) (q : Part) → new ≡ old ++ parts_of ports (length old) f → new ++ q ∷ [] ≡ old ++ (parts_of ports (length old) f ++ q ∷ [])
-put_one ports old new f q e = ap (λ (ps : List Part). ps ++ q ∷ []) e ∙ append_assoc old (parts_of ports (length old) f) (q ∷ [])
-
 pub put_two : (ports : List Port) (old one two : List Part) (f g : Formula) (tail : List Part) → one ≡ old ++ parts_of ports (length old) f → two ≡ one ++ parts_of ports (length one) g
     → two ++ tail ≡ old ++ (parts_of ports (length old) f ++ (parts_of ports (length old + part_count f) g ++ tail))
 put_two ports old one two f g tail e h =

@@ -2,7 +2,7 @@
 use Rattle.std.proofs.Common.{◌≡◌, ◌≢◌, ℕ, ◌+◌, ◌<◌, ◌≤◌, Bool, true, false, not, cond, List, [], ◌∷◌, ◌++◌, length, get_or, set, Contains, inl, inr, ◌⊎◌, sym, subst, ap, ◌∙◌, arith}
 use Rattle.std.specs.Bool.{MatchBool}
 use Rattle.std.proofs.lemmas.Bool.{true≢false, cases_eq, cases_lt}
-use Rattle.std.proofs.lemmas.List.{get_or-set_same, get_or-set_other, length-set, get_or_past, get_or_push, get_or_append_left, length_push}
+use Rattle.std.proofs.lemmas.List.{get_or-set_same, get_or-set_other, length-set, get_or_push, get_or_append_left, length_push}
 use Rattle.std.proofs.lemmas.List.Elements.{All-push, Contains-push, Contains-append_left}
 use Rattle.std.proofs.lemmas.List.Sums.{sum_by-set}
 use Rattle.ag_stream.specs.declared.problem.ProblemDraft.{ProblemDraft}
@@ -12,14 +12,6 @@ use Rattle.ag_stream.specs.Dependence.{PartNames, DependsOn, Leads, IsFirstOnCyc
 use Rattle.ag_stream.specs.Work.{IsPlainForm, IsAt, IsMarked, NamesMarked, IsArranging, IsStuck, target_at, waiting}
 use Rattle.ag_stream.specs.Spreading.{IsSpreading, IsSpread, SpreadsAs, bare}
 use Rattle.ag_stream.proofs.Equations.{target_is, depends_at, depends_by, one_number, one_part, one_at, at_within}
-
--- a marked stream is within the marks
-pub marked_within : (marks : List Bool) (s : ℕ) → IsMarked marks s → s < length marks
-marked_within marks s marked =
-    elim (cases_lt s (length marks)) [
-      | inl lt ↦ lt
-      | inr past ↦ absurd (true≢false (sym marked ∙ get_or_past marks s false past))
-    ]
 
 -- one mark more
 pub marked_set : (marks : List Bool) (i s : ℕ) → IsMarked (set marks i true) s → (s ≡ i) ⊎ IsMarked marks s

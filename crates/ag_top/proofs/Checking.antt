@@ -1,5 +1,5 @@
 -- From the stages of a check to what it promises.
-use Rattle.std.proofs.Common.{◌≡◌, ◌<◌, ◌⊎◌, ◌==◌, ◌+◌, Bool, true, false, if◌then◌else◌, ◌∙◌, ◌≤◌, ◌++◌, ◌∷◌, [], ℕ, List, take, length, Option, Result, Ok, Err, OnOk, IfOk, IsErrOf, refl, sym, ap, subst, arith, append_assoc, append-nil, inl, inr, get_or}
+use Rattle.std.proofs.Common.{◌≡◌, ◌<◌, ◌⊎◌, ◌==◌, ◌+◌, Bool, true, false, if◌then◌else◌, ◌∙◌, ◌++◌, ◌∷◌, [], ℕ, List, take, length, Option, Result, Ok, Err, OnOk, IfOk, IsErrOf, refl, sym, ap, subst, arith, append_assoc, append-nil, inl, inr, get_or}
 use Rattle.std.specs.Prelude.{All, IfSome}
 use Rattle.std.specs.List.{AllByRecursion}
 use Rattle.std.proofs.lemmas.List.{length-map}
@@ -262,9 +262,6 @@ fit_different p f i j d l m same =
 
 pub fit_plain : (p : Package) → AreFit (obligations_of p sought) → All (λ k. IsPlain k.1) (listed_of p)
 fit_plain p f = All-map (λ (k : Key × ProblemDraft). IsPlain k.1) (λ (x : Obligation). (x.key, x.problem)) (obligations_of p sought) f.plain
-
-pub fit_few : (p : Package) → AreFit (obligations_of p sought) → length (listed_of p) ≤ 1024
-fit_few p f = let a = length-map {B = Key × ProblemDraft} (obligations_of p sought) (λ (x : Obligation). (x.key, x.problem)) in let b = f.few in omega (arith, a, b)
 
 pub record ByVerdicts (A : Type 0) (end : State) (status : Status) : Type 0 where
   pub all : A

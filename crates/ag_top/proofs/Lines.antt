@@ -108,15 +108,6 @@ pub count_of-lines_of : (test : Verdict → Bool) (ks : List (Key × ProblemDraf
 count_of-lines_of test ks vs h =
     sym (length-filter (λ (l : Line). passes test l.verdict) (lines_of ks vs)) ∙ (passing test ks vs h ∙ length-filter test vs)
 
--- a line by its place
-pub line_at : (ks : List (Key × ProblemDraft)) (vs : List Verdict) (i : ℕ) (k : Key × ProblemDraft) → slice_get ks i ≡ Some k
-    → slice_get (lines_of ks vs) i ≡ Some (record { key = k.0; problem = k.1; verdict = slice_get vs i })
-line_at [] vs i k e = cc
-line_at (j ∷ ks) [] zero k e = let s : j ≡ k = cc in ap (λ (x : Key × ProblemDraft). Some (undecided_line x)) s
-line_at (j ∷ ks) (v ∷ vs) zero k e = let s : j ≡ k = cc in ap (λ (x : Key × ProblemDraft). Some (record { key = x.0; problem = x.1; verdict = Some v })) s
-line_at (j ∷ ks) [] (suc i) k e = line_at ks [] i k e
-line_at (j ∷ ks) (v ∷ vs) (suc i) k e = line_at ks vs i k e
-
 pub length-lines_of : (ks : List (Key × ProblemDraft)) (vs : List Verdict) → length (lines_of ks vs) ≡ length ks
 length-lines_of [] vs = refl
 length-lines_of (k ∷ ks) [] = ap suc (length-lines_of ks [])

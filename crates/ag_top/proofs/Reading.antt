@@ -1,16 +1,12 @@
 -- Reading a source piece by piece.
-use Rattle.std.proofs.Common.{◌≡◌, ◌∙◌, ◌<◌, ◌≤◌, ◌++◌, [], ℕ, List, length, drop, Option, Some, None, refl, sym, ap, subst, arith, append_assoc, append-nil, length-append, inl, inr}
+use Rattle.std.proofs.Common.{◌≡◌, ◌∙◌, ◌<◌, ◌≤◌, ◌++◌, ℕ, List, length, drop, Option, Some, None, refl, sym, ap, subst, arith, append_assoc, length-append, inl, inr}
 use Rattle.std.specs.Prelude.{IfSome}
 use Rattle.ag_base.specs.Outside.{Takes, Rose}
-use Rattle.ag_top.specs.Words.{IsTextOf, IsTooLong}
+use Rattle.ag_top.specs.Words.{IsTooLong}
 
 -- the source had these bytes and what it has left, where it tells
 pub record HasRead (before now : Option (List ℕ)) (bytes : List ℕ) : Type 0 where
   pub told : IfSome before (λ all. (rest : List ℕ) × (now ≡ Some rest) × (all ≡ bytes ++ rest))
-
-pub read_none : (before : Option (List ℕ)) → HasRead before before []
-read_none None = record { told = tt }
-read_none (Some all) = record { told = (all, refl, refl) }
 
 -- one piece more
 pub read_more : (before middle now : Option (List ℕ)) (bytes piece : List ℕ) → HasRead before middle bytes → IfSome middle (λ left. Takes left piece now) → HasRead before now (bytes ++ piece)
@@ -19,14 +15,6 @@ read_more (Some all) middle now bytes piece h t =
     let rest : List ℕ = h.told.0 in
     let taken : Takes rest piece now = subst (λ (o : Option (List ℕ)). IfSome o (λ left. Takes left piece now)) h.told.1 t in
     record { told = (drop (length piece) rest, taken.rest, h.told.2 ∙ (ap (λ (x : List ℕ). bytes ++ x) taken.whole ∙ sym (append_assoc bytes piece (drop (length piece) rest)))) }
-
--- where nothing is left, that was all
-pub read_all : (before now : Option (List ℕ)) (bytes : List ℕ) → HasRead before now bytes → IfSome now (λ left. left ≡ []) → IsTextOf before bytes
-read_all None now bytes h e = tt
-read_all (Some all) now bytes h e =
-    let rest : List ℕ = h.told.0 in
-    let none : rest ≡ [] = subst (λ (o : Option (List ℕ)). IfSome o (λ left. left ≡ [])) h.told.1 e in
-    sym (h.told.2 ∙ (ap (λ (x : List ℕ). bytes ++ x) none ∙ append-nil bytes))
 
 -- the whole text is at least as long as what was read of it
 pub read_long : (before now : Option (List ℕ)) (bytes : List ℕ) (n : ℕ) → HasRead before now bytes → n ≡ 4194304 → n < length bytes → IsTooLong before

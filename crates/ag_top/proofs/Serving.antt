@@ -12,10 +12,7 @@ use Rattle.ag_top.specs.declared.history.Posted.TheVariants as ways
 use Rattle.ag_top.specs.Entries.{PlainEntry, claim, work, settled, post, posted}
 use Rattle.ag_top.specs.Store.{Kept, Enters, entry}
 use Rattle.ag_top.specs.Commands.{IsDecision, IsSettling, Grows}
-use Rattle.ag_top.specs.Stages.{Extends, DecidesOne, AreDecisions, Decides, Settles}
-
-pub nothing_decided : (h : List PlainEntry) → Decides h h
-nothing_decided h = record { entries = []; decisions = tt; whole = sym (append-nil h) }
+use Rattle.ag_top.specs.Stages.{DecidesOne, AreDecisions, Decides, Settles}
 
 more_decisions : (es : List PlainEntry) (a b : PlainEntry) → AreDecisions es → IsDecision a b → AreDecisions (es ++ a ∷ b ∷ [])
 more_decisions [] a b d e = (e, tt)
@@ -40,12 +37,6 @@ decide_all {old} {middle} {new} d e = record {
   entries = d.entries ++ entry claim settled ∷ [];
   settling = decisions_settle d.entries d.decisions;
   whole = e ∙ (ap (λ (h : List PlainEntry). h ++ entry claim settled ∷ []) d.whole ∙ append_assoc old d.entries (entry claim settled ∷ []));
-}
-
-pub extends_by : {old middle new : List PlainEntry} → Decides old middle → Extends middle new → Extends old new
-extends_by {old} {middle} {new} d x = record {
-  entries = d.entries ++ x.entries;
-  whole = x.whole ∙ (ap (λ (h : List PlainEntry). h ++ x.entries) d.whole ∙ append_assoc old d.entries x.entries);
 }
 
 -- a claim that handed out a problem and the post of its verdict

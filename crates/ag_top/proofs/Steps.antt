@@ -66,16 +66,6 @@ out_is_out (k ∷ ks) (suc n) l e = out_there ks n (omega arith) e
     out_there (k ∷ ks) zero l e = cc
     out_there (k ∷ ks) (suc m) l e = out_there ks m (omega arith) e
 
--- an idle store is open, and its ticket is in
-record Idle (list : List (Key × ProblemDraft)) (vs : List Verdict) (out shut : Bool) : Type 0 where
-  pub is_in : out ≡ false
-  pub is_open : shut ≡ false
-
-idle : (list : List (Key × ProblemDraft)) (vs : List Verdict) (out shut : Bool) (h : List PlainEntry) → IsStore list vs out shut h → IsIdle (store_of list vs out shut) → Idle list vs out shut
-idle list vs true shut h s i = absurd (out_is_out list (length vs) (let r = s.room in omega arith) i.tickets)
-idle list vs false true h s i = let o = i.still_open in cc
-idle list vs false false h s i = record { is_in = refl; is_open = refl }
-
 pub record SettledStep (list : List (Key × ProblemDraft)) (vs : List Verdict) (out shut : Bool) (h h' : List PlainEntry) : Type 0 where
   pub store : IsStore list vs out shut h'
   pub enters : Enters record { state = store_of list vs out shut; history = h } record { state = store_of list vs out shut; history = h' } claim settled

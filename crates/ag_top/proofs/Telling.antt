@@ -1,10 +1,6 @@
 -- What is told of lines that are true.
-use Rattle.std.proofs.Common.{◌≡◌, ◌∙◌, ◌<◌, ◌++◌, ◌∷◌, [], ℕ, zero, suc, List, length, map, Option, Some, None, refl, sym, ap, subst, arith, get_or}
-use Rattle.std.proofs.lemmas.List.{length-map, map-append}
-use Rattle.std.specs.declared.sync.Arc.{Arc}
-use Rattle.std.specs.declared.alloc.Global.{Global}
-use Rattle.ag_stream.specs.declared.problem.Problem.{Problem}
-use Rattle.ag_top.specs.Entries.{plain_list}
+use Rattle.std.proofs.Common.{◌≡◌, ◌∙◌, ◌<◌, ◌∷◌, [], ℕ, zero, suc, List, length, map, Option, Some, None, refl, sym, ap, subst, arith, get_or}
+use Rattle.std.proofs.lemmas.List.{length-map}
 use Rattle.std.specs.Prelude.{All, Any, Contains, IfSome}
 use Rattle.std.specs.List.{AllByRecursion}
 use Rattle.std.proofs.lemmas.List.Elements.{All-from_recursion, recursion_from_All}
@@ -67,11 +63,3 @@ told_named carry p w (key, None) h = tt
 told_named carry p w (key, Some v) h =
     let r = obligation_of (obligations_of p sought) h.1 h.0 (let a = length-map {B = Key × ProblemDraft} (obligations_of p sought) (λ (o : Obligation). (o.key, o.problem)) in let l = h.2 in omega (arith, a, l)) h.3 in
     subst (λ (k : Key). IsTrueOfNamed p sought k v) (r.2 ∙ h.4.0) (carry p sought r.0 v w r.1 (subst (λ (d : ProblemDraft). IsTrueOf d v) (sym r.3) h.4.1))
-
--- one obligation more
-pub pushed_pair : (old new : List (Key × Arc Problem Global)) (o : Obligation) (os : List Obligation) (a : Arc Problem Global) → new ≡ old ++ (o.key, a) ∷ [] → a.value ≡ o.problem → plain_list old ≡ pairs_of os
-    → plain_list new ≡ pairs_of (os ++ o ∷ [])
-pushed_pair old new o os a h e so =
-    ap (λ (xs : List (Key × Arc Problem Global)). plain_list xs) h
-    ∙ (map-append {B = Key × ProblemDraft} (λ (k : Key × Arc Problem Global). (k.0, k.1.value)) old ((o.key, a) ∷ [])
-    ∙ (ap (λ (xs : List (Key × ProblemDraft)). xs ++ (o.key, a.value) ∷ []) so ∙ (ap (λ (p : ProblemDraft). pairs_of os ++ (o.key, p) ∷ []) e ∙ sym (map-append {B = Key × ProblemDraft} (λ (x : Obligation). (x.key, x.problem)) os (o ∷ [])))))

@@ -1,7 +1,7 @@
 -- Trying valuations of the free streams.
 use Rattle.std.proofs.Common.{◌≡◌, ◌≢◌, ◌⊎◌, ◌+◌, ◌<◌, ◌∙◌, ◌++◌, ◌∷◌, [], ℕ, ℤ, zero, suc, Bool, true, false, List, length, replicate, Option, Some, None, refl, sym, ap, arith, subst, get_or, set, inl, inr, get_or-set_other, get_or-set_same}
 use Rattle.std.specs.Prelude.{All, Contains, IfNone}
-use Rattle.std.proofs.lemmas.List.Elements.{All-head, All-tail, All-nil, All-push, Contains-push, Contains-append_left}
+use Rattle.std.proofs.lemmas.List.Elements.{All-head, All-tail, All-push, Contains-push, Contains-append_left}
 use Rattle.ag_stream.specs.declared.problem.ProblemDraft.{ProblemDraft}
 use Rattle.ag_stream.specs.declared.problem.Instant.{Instant}
 use Rattle.ag_stream.specs.declared.problem.Run.{Run}
@@ -16,9 +16,6 @@ use Rattle.ag_top.specs.Trying.{IsSought, IsSoughtBy, AgreesOutside}
 pub record IsFreeBelow (d : ProblemDraft) (n : ℕ) (free : List ℕ) : Type 0 where
   pub all : (s : ℕ) → s < n → (Contains (targets d) (d.ints + s) → ⊥) → Contains free s
   pub below : All (λ s. s < d.flags) free
-
-pub free_none : (d : ProblemDraft) → IsFreeBelow d 0 []
-free_none d = record { all = λ s l n. absurd (omega arith); below = All-nil (λ s. s < d.flags) }
 
 same_or_below : (s n : ℕ) → s < n + 1 → (s < n) ⊎ (s ≡ n)
 same_or_below s n l = grind arith

@@ -1,5 +1,5 @@
 -- Lists of line numbers by literal.
-use Rattle.std.proofs.Common.{◌≡◌, ◌⊎◌, inl, inr, ℕ, ◌+◌, ◌*◌, ◌<◌, Bool, true, false, cond, List, [], ◌∷◌, ◌++◌, length, get_or, set, sym, ap, subst, ◌∙◌, arith, Contains}
+use Rattle.std.proofs.Common.{◌≡◌, ◌⊎◌, inl, inr, ℕ, ◌+◌, ◌<◌, List, [], ◌∷◌, ◌++◌, length, get_or, set, sym, ap, subst, ◌∙◌, Contains}
 use Rattle.std.specs.List.{AllWithin}
 use Rattle.std.proofs.lemmas.List.{get_or-set_same, get_or-set_other, get_or_default, length-set}
 use Rattle.std.proofs.lemmas.List.Elements.{AllWithin-more, Contains-append_left, Contains-push, Contains-push_cases}
@@ -53,10 +53,3 @@ list_more before lists lits k line d ys i so lt at inside is =
             | inr ne ↦ so.only l n (subst (λ (xs : List ℕ). Contains xs n) (past lists i ys l ne) h)
           ];
     }
-
-pub listed_range : (l : Lit) (atoms : ℕ) → l.atom < atoms → slot l < 2 * atoms
-listed_range l atoms lt = omega (arith, lt, bit_small l.holds)
-  where
-    bit_small : (b : Bool) → cond b 1 0 < 2
-    bit_small true = omega arith
-    bit_small false = omega arith

@@ -50,9 +50,6 @@ contains_none y h = omega (arith, h.1)
 pub any_at : {X : Type 0} (P : X → Type 0) (xs : List X) (x : X) → Contains xs x → P x → Any P xs
 any_at P xs x h p = (h.0, x, h.1, h.2, p)
 
-pub any_contains : {X : Type 0} (P : X → Type 0) (xs : List X) → (h : Any P xs) → Contains xs h.1
-any_contains P xs h = (h.0, h.2, h.3)
-
 pub contains_all : {X : Type 0} (P : X → Type 0) (xs : List X) → ((x : X) → Contains xs x → P x) → All P xs
 contains_all P [] h = All-nil P
 contains_all P (x ∷ xs) h = All-cons P x xs (h x (contains_head x xs)) (contains_all P xs (λ y c. h y (contains_tail x y xs c)))

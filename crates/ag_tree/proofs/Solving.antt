@@ -118,30 +118,11 @@ met_from s numbers flags g rest sat full count said =
 
 -- ---- what is left falls
 
-product_more : (x m : ℕ) → (x + 1) * m ≡ x * m + m
-product_more x m = grind arith
-
 pub kept_left : (work : ℕ) (before now : Progress) → Keeps before now → left work now ≤ left work before
 kept_left work before now k =
     let a : ℕ = now.trail.atoms in
     let Le : ℕ → ℕ → Type 0 = λ f n. (work - length now.facts) * (now.trail.atoms + 1) + (now.trail.atoms - length now.trail.steps) ≤ (work - f) * (n + 1) + (n - length before.trail.steps) in
     subst (λ (f : ℕ). Le f before.trail.atoms) (ap length k.facts) (subst (λ (n : ℕ). Le (length now.facts) n) k.atoms (omega (arith, k.more)))
-
-pub chosen_left : (work : ℕ) (before now : Progress) → Keeps before now → length now.trail.steps ≡ length before.trail.steps + 1 → length now.trail.steps ≤ now.trail.atoms → left work now < left work before
-chosen_left work before now k more room =
-    let Lt : ℕ → ℕ → Type 0 = λ f n. (work - length now.facts) * (now.trail.atoms + 1) + (now.trail.atoms - length now.trail.steps) < (work - f) * (n + 1) + (n - length before.trail.steps) in
-    subst (λ (f : ℕ). Lt f before.trail.atoms) (ap length k.facts) (subst (λ (n : ℕ). Lt (length now.facts) n) k.atoms (omega (arith, more, room)))
-
-falls_by : (w f n u v : ℕ) → f < w → v ≤ n → (w - (f + 1)) * (n + 1) + v < (w - f) * (n + 1) + u
-falls_by w f n u v lt le =
-    let e : w - f ≡ (w - (f + 1)) + 1 = omega arith in
-    rw e (rw (product_more (w - (f + 1)) (n + 1)) (omega (arith, le)))
-
-pub learned_left : (work : ℕ) (before now : Progress) → length now.facts ≡ length before.facts + 1 → now.trail.atoms ≡ before.trail.atoms → length before.facts < work → left work now < left work before
-learned_left work before now count atoms lt =
-    let Lt : ℕ → ℕ → Type 0 = λ f n. (work - f) * (n + 1) + (n - length now.trail.steps) < (work - length before.facts) * (before.trail.atoms + 1) + (before.trail.atoms - length before.trail.steps) in
-    subst (λ (f : ℕ). Lt f now.trail.atoms) (sym count) (subst (λ (n : ℕ). Lt (length before.facts + 1) n) (sym atoms)
-    (falls_by work (length before.facts) before.trail.atoms (before.trail.atoms - length before.trail.steps) (before.trail.atoms - length now.trail.steps) lt (omega arith)))
 
 -- what a round ends with stays true where a part of it went before
 pub ends_before : (leaves : Bool) (work : ℕ) (before mid now : Progress) → Keeps before mid → (r : Round) → EndsAs leaves work mid now r → EndsAs leaves work before now r

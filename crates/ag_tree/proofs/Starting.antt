@@ -1,11 +1,11 @@
 -- The clauses of a query are listed, and a search begins.
-use Rattle.std.proofs.Common.{◌≡◌, ◌⊎◌, inl, inr, ℕ, ◌+◌, ◌*◌, ◌<◌, List, [], ◌∷◌, ◌++◌, length, get_or, map, replicate, None, Vec, Global, refl, sym, ap, subst, ◌∙◌, arith, All, Contains}
+use Rattle.std.proofs.Common.{◌≡◌, ◌⊎◌, inl, inr, ℕ, ◌+◌, ◌*◌, ◌<◌, List, [], ◌∷◌, ◌++◌, length, get_or, map, None, Vec, Global, refl, sym, ap, subst, ◌∙◌, arith, All, Contains}
 use Rattle.std.specs.List.{range_with_len}
 use Rattle.std.specs.Option.{is_some}
 use Rattle.std.proofs.Common.{false}
-use Rattle.std.proofs.lemmas.List.{append-nil, get_or_default, get_or-map, get_or-replicate, get_or_past, length-map, length-replicate, map-id, take_all}
+use Rattle.std.proofs.lemmas.List.{append-nil, get_or_default, get_or-map, length-map, map-id, take_all}
 use Rattle.std.proofs.lemmas.List.FromFn.{length-range_with_len, get_or-range_with_len, map-range_with_len_more}
-use Rattle.std.proofs.lemmas.Bool.{cases_eq, cases_lt}
+use Rattle.std.proofs.lemmas.Bool.{cases_eq}
 use Rattle.ag_query.specs.declared.clauses.Lit.{Lit}
 use Rattle.ag_query.specs.declared.clauses.LClause.{LClause}
 use Rattle.ag_query.specs.declared.query.Query.{Query}
@@ -17,10 +17,8 @@ use Rattle.ag_tree.specs.declared.rounds.Progress.{Progress}
 use Rattle.ag_tree.specs.Facts.{HasNoneBothWays}
 use Rattle.ag_tree.specs.Trail.{Seen, IsSettled}
 use Rattle.ag_tree.specs.Going.{IsClauseLine, IsListed, IsAmong, IsGoing, IsReady}
-use Rattle.ag_tree.specs.Listing.{listed, slot}
-use Rattle.ag_tree.proofs.Lits.{contains_none}
+use Rattle.ag_tree.specs.Listing.{listed}
 use Rattle.ag_tree.proofs.Going.{IsAdded}
-use Rattle.ag_tree.proofs.Listing.{listed_range}
 
 -- the first clauses are listed
 pub record AreListedTo (clauses : List LClause) (before now : List (List ℕ)) (numbers : List ℕ) (upto : ℕ) : Type 0 where
@@ -53,23 +51,6 @@ listed_to_more clauses before mid now numbers more i number c so lt at named add
                 λ j d in'. added.kept (contrary (get_or x.lits j d)) k (so.under k x (omega (arith, low, ne)) there j d in')
           ];
     }
-
--- lists that are empty
-empty_at : (n : ℕ) (i : ℕ) → get_or (replicate {A = List ℕ} n []) i [] ≡ []
-empty_at n i =
-    elim (cases_lt i n) [
-      | inl lt ↦ get_or-replicate n i [] [] lt
-      | inr past ↦ get_or_past (replicate {A = List ℕ} n []) i [] (omega (arith, past, length-replicate {A = List ℕ}))
-    ]
-
-pub none_listed : (n : ℕ) (l : Lit) (m : ℕ) → Contains (listed (replicate {A = List ℕ} n []) l) m → ⊥
-none_listed n l m h = contains_none m (subst (λ (xs : List ℕ). Contains xs m) (empty_at n (slot l)) h)
-
-pub clauses_in_range : (query : Query) (lists : List (List ℕ)) → length lists ≡ 2 * length query.atoms → All (λ c. All (λ l. slot (contrary l) < length lists) c.lits) query.clauses
-clauses_in_range query lists long k c lt j d in' =
-    let l : Lit = get_or (get_or query.clauses k c).lits j d in
-    let inside = listed_range (contrary l) (length query.atoms) (query.literals k c lt j d in') in
-    omega (arith, long, inside)
 
 -- ---- the beginning
 

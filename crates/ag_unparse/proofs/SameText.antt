@@ -61,9 +61,6 @@ mutual
   bare_arguments before (more_of-Term t rest) =
       ap (λ (ws : List Spelled). before ++ (ws ++ listed_words comma (bare_terms rest))) (bare_words t) ∙ ap (λ (ws : List Spelled). before ++ (term_words t ++ ws)) (bare_arguments comma rest)
 
-bare_var_words : (v : Var) → var_words (bare_var v) ≡ var_words v
-bare_var_words v = refl
-
 bare_more_vars : (vs : List Var) → more_var_words (map bare_var vs) ≡ more_var_words vs
 bare_more_vars [] = refl
 bare_more_vars (v ∷ vs) = ap (λ (ws : List Spelled). sign (codes ",") ∷ (var_words v ++ ws)) (bare_more_vars vs)

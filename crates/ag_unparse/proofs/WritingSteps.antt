@@ -1,5 +1,5 @@
 -- Words and lines that are written one behind the other.
-use Rattle.std.proofs.Common.{◌≡◌, ℕ, suc, ◌+◌, ◌<◌, ◌≤◌, Bool, true, false, cond, ◌&&◌, ◌||◌, eqb, List, [], ◌∷◌, ◌++◌, length, get_or, drop, map, Option, Some, Result, refl, sym, ap, ◌∙◌, inl, inr, add-one, drop-cons}
+use Rattle.std.proofs.Common.{◌≡◌, ℕ, suc, ◌+◌, ◌<◌, ◌≤◌, Bool, true, false, cond, ◌&&◌, ◌||◌, eqb, List, [], ◌∷◌, ◌++◌, length, get_or, drop, Option, Some, Result, refl, sym, ap, ◌∙◌, inl, inr, add-one, drop-cons}
 use Rattle.std.specs.Prelude.{codes}
 use Rattle.std.specs.Result.{OnOk}
 use Rattle.std.proofs.lemmas.Bool.{cases_Bool, and_parts, eqb-true}
@@ -10,7 +10,7 @@ use Rattle.ag_aadl.specs.Names.{put_before, name_parts}
 use Rattle.ag_annex.specs.Marks.{part_mark}
 use Rattle.ag_unparse.specs.Layout.{Spelled, joins_before, joins_behind, words_bytes, line_bytes, text_bytes}
 use Rattle.ag_unparse.specs.Canonical.{name_at, sign, package_parts, part_words, more_part_words}
-use Rattle.ag_unparse.specs.Written.{Written, with_bytes, with_word, with_words, with_end, with_lines}
+use Rattle.ag_unparse.specs.Written.{Written, with_bytes, with_word, with_words, with_lines}
 
 -- ---- words behind words
 
@@ -40,17 +40,6 @@ pub words_done : {X : Type 0} (h : List X → List Spelled) → h [] ≡ [] → 
 words_done h none xs i s t le all =
     let gone : drop i xs ≡ [] = drop_all i xs le in
     sym (ap (λ ys. with_words t (h ys)) gone ∙ ap (with_words t) none) ∙ all
-
-pub lines_step : {X : Type 0} (f : X → List Spelled) (xs : List X) (i : ℕ) (x : X) (s t u v : Written) → i < length xs → x ≡ get_or xs i x → with_lines t (map f (drop i xs)) ≡ with_lines s (map f xs)
-    → u ≡ with_words t (f x) → v ≡ with_end u → with_lines v (map f (drop (i + 1) xs)) ≡ with_lines s (map f xs)
-lines_step f xs i x s t u v lt is before added ended =
-    let split : drop i xs ≡ x ∷ drop (i + 1) xs = rw (add-one, drop-cons xs i x) (ap (λ y. y ∷ drop (suc i) xs) (sym is)) in
-    ap (λ (w : Written). with_lines w (map f (drop (i + 1) xs))) (ended ∙ ap with_end added) ∙ ap (λ ys. with_lines t (map f ys)) (sym split) ∙ before
-
-pub lines_done : {X : Type 0} (f : X → List Spelled) (xs : List X) (i : ℕ) (s t : Written) → length xs ≤ i → with_lines t (map f (drop i xs)) ≡ with_lines s (map f xs) → t ≡ with_lines s (map f xs)
-lines_done f xs i s t le all =
-    let gone : drop i xs ≡ [] = drop_all i xs le in
-    sym (ap (λ ys. with_lines t (map f ys)) gone) ∙ all
 
 -- ---- the parts of a package's name
 
