@@ -1,5 +1,5 @@
 -- The first broken rule of lists that follow each other.
-use Rattle.std.proofs.Common.{◌≡◌, ℕ, ◌<◌, Bool, true, false, not, List, [], ◌∷◌, ◌++◌, refl, inl, inr, ap, sym, ◌∙◌, arith, nat_lt, nat_eq, ◌&&◌, ◌||◌}
+use Rattle.std.proofs.Common.{◌≡◌, ℕ, Bool, true, false, not, List, [], ◌∷◌, ◌++◌, refl, inl, inr, ap, sym, ◌∙◌, arith, nat_lt, nat_eq, ◌&&◌, ◌||◌}
 use Rattle.std.specs.Prelude.{Option, Some, None, if◌then◌else◌}
 use Rattle.std.proofs.lemmas.Bool.Decides.{nat_tests}
 use Rattle.std.proofs.lemmas.Bool.{cases_Bool}
@@ -10,15 +10,6 @@ use Rattle.ag_types.specs.Places.{is_before, order_of, first_refusal, first_with
 -- the order of pairs, by a number and what decides where it is the same
 abbrev pub pairwise : ℕ → ℕ → Bool → Bool
 pairwise a b rest = nat_lt a b || (nat_eq a b && rest)
-
-pairwise_less : (a b : ℕ) (rest : Bool) → a < b → pairwise a b rest ≡ true
-pairwise_less a b rest h = grind (arith, nat_tests)
-
-pairwise_same : (a b : ℕ) (rest : Bool) → a ≡ b → pairwise a b rest ≡ rest
-pairwise_same a b rest h = grind (arith, nat_tests)
-
-pairwise_more : (a b : ℕ) (rest : Bool) → b < a → pairwise a b rest ≡ false
-pairwise_more a b rest h = grind (arith, nat_tests)
 
 pairwise-trans : (a b c : ℕ) (p q r : Bool) → (p ≡ true → q ≡ true → r ≡ true) → pairwise a b p ≡ true → pairwise b c q ≡ true → pairwise a c r ≡ true
 pairwise-trans a b c p q r h e f = grind (arith, nat_tests)

@@ -16,10 +16,10 @@ use Rattle.ag_aadl.specs.declared.packages.Ident.{Ident}
 use Rattle.ag_annex.specs.declared.clauses.Clause.{Clause}
 use Rattle.ag_annex.specs.declared.clauses.Clause.TheVariants as clause
 use Rattle.ag_graph.specs.Circles.{AreCircles}
+use Rattle.ag_symbols.specs.Seen.{Seen, Names, clauses_seen, nodes_in, library_names, frame_names, names_seen, over_sites}
 use Rattle.ag_types.specs.Answers.{IsFirst}
 use Rattle.ag_types.specs.Firsts.{either}
 use Rattle.ag_types.specs.Places.{first_broken}
-use Rattle.ag_types.specs.Seen.{Seen, Names, clauses_seen, nodes_in, library_names, frame_names, names_seen, over_sites}
 use Rattle.ag_types.specs.Uses.{Declared, constants_of, of_constant, of_node, declared_of, used_by, uses_of, circular, circular_from, IsCircular}
 use Rattle.ag_types.proofs.Answering.{first_in, first_of_same}
 use Rattle.ag_types.proofs.Breaking.{either-assoc, first_broken-append}

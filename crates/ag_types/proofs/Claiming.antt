@@ -5,7 +5,6 @@ use Rattle.std.specs.Prelude.{Option, Some, None}
 use Rattle.std.proofs.lemmas.List.{drop_all}
 use Rattle.ag_base.specs.declared.place.Place.{Place}
 use Rattle.ag_base.specs.declared.place.Refusal.{Refusal}
-use Rattle.ag_base.specs.declared.place.Rule.TheVariants.{Mismatch, Arity}
 use Rattle.ag_aadl.specs.declared.packages.Path.{Path}
 use Rattle.ag_annex.specs.declared.clauses.Equal.{Equal}
 use Rattle.ag_annex.specs.declared.clauses.Labelled.{Labelled}
@@ -14,19 +13,18 @@ use Rattle.ag_annex.specs.declared.clauses.Ty.TheVariants.{Bool as Boolean}
 use Rattle.ag_annex.specs.declared.clauses.Var.{Var}
 use Rattle.ag_annex.specs.declared.terms.Binary.{Binary}
 use Rattle.ag_annex.specs.declared.terms.Binary.TheVariants.{Arrow, Implies, Iff, Or, And, Less, AtMost, More, AtLeast, Same, Differs, Plus, Minus, Times, Div, Mod}
-use Rattle.ag_annex.specs.declared.terms.Unary.{Unary}
 use Rattle.ag_annex.specs.declared.terms.Unary.TheVariants as unary
 use Rattle.ag_annex.specs.declared.terms.Term.{Term, Row_of-Term, items-the_row-Term, items_hidden-the_row-Term-1}
 use Rattle.ag_annex.specs.declared.terms.Term.TheBlock.{hidden-the_row-Term-0, hidden-the_row-Term-1}
 use Rattle.ag_annex.specs.declared.terms.Term.TheViews as term
-use Rattle.ag_types.specs.ClauseFaults.{claim_faults, value_mismatch, unknown_target, equal_faults, several_faults, several_call, several_outputs, output_mismatches, constant_faults}
+use Rattle.ag_symbols.specs.Seen.{Names, node_of, value_named}
+use Rattle.ag_types.specs.ClauseFaults.{claim_faults, value_mismatch, unknown_target, equal_faults, several_faults, several_call, several_outputs, output_mismatches}
 use Rattle.ag_types.specs.ClauseFirsts.{first_output, first_of_several, is_arrow}
 use Rattle.ag_types.specs.Constants.{is_varying}
 use Rattle.ag_types.specs.Firsts.{either, mismatches_in, faults_among, inputs_of}
 use Rattle.ag_types.specs.Places.{first_place, first_broken, path_place}
-use Rattle.ag_types.specs.Seen.{Names, node_of, value_named}
 use Rattle.ag_types.specs.Types.{type_in, type_of_var, faults_in, faults_in_all, argument_mismatches, arguments_in, mismatch, arity}
-use Rattle.ag_types.proofs.Breaking.{either-none, either-assoc, first_broken-append, first_with-is}
+use Rattle.ag_types.proofs.Breaking.{either-none, either-assoc, first_broken-append}
 use Rattle.ag_types.proofs.Typing.{mismatches_of_items, faults_of_items, arguments_of_items}
 
 pub broken_claim : (names : Names) (l : Labelled) →
@@ -48,24 +46,6 @@ pub broken_equal : (names : Names) (vars : List Var) (e : Equal) →
 broken_equal names vars e = sym (first_broken-append (unknown_target (value_named e.name.text vars) e.name.place) (value_mismatch names (value_named e.name.text vars) e.value ++ faults_in names e.value))
 
 -- ---- several names
-
-pub several_unary : (names : Names) (vars : List Var) (op : Unary) (place : Place) (t : Term) →
-    several_faults names vars (term.Unary op place t) ≡ record { place = first_place (term.Unary op place t); rule = Arity } ∷ faults_in names (term.Unary op place t)
-unfolding hidden-the_row-Term-0 hidden
-several_unary names vars op place t = refl
-
-pub several_binary : (names : Names) (vars : List Var) (op : Binary) (place : Place) (t u : Term) →
-    several_faults names vars (term.Binary op place t u) ≡ record { place = first_place (term.Binary op place t u); rule = Arity } ∷ faults_in names (term.Binary op place t u)
-unfolding hidden-the_row-Term-0 hidden
-several_binary names vars op place t u = refl
-
-pub several_choice : (names : Names) (vars : List Var) (place : Place) (t u v : Term) →
-    several_faults names vars (term.Choice place t u v) ≡ record { place = first_place (term.Choice place t u v); rule = Arity } ∷ faults_in names (term.Choice place t u v)
-unfolding hidden-the_row-Term-0 hidden
-several_choice names vars place t u v = refl
-
-pub broken_first : (r : Refusal) (rs : List Refusal) → either (Some r) (first_broken rs) ≡ first_broken (r ∷ rs)
-broken_first r rs = sym (first_with-is r (first_broken rs))
 
 several_as : (names : Names) (vars : List Var) (path : Path) (node : Option NodeDef) {n : _} (row : Row_of-Term n) →
     first_broken (several_call names vars path node row) ≡ first_of_several vars (path_place path) node (length (items-the_row-Term n row)) (first_broken (mismatches_in names (inputs_of node) (items-the_row-Term n row)))
@@ -108,18 +88,6 @@ outputs_end vs os place i so_far all h e =
 
 -- ---- constants
 
-pub broken_constant : (names : Names) (v : Var) (t : Term) → is_varying names t ≡ true →
-    either (Some (record { place = first_place t; rule = Mismatch })) (first_broken (value_mismatch names (Some v) t ++ faults_in names t)) ≡ first_broken (constant_faults names v t)
-broken_constant names v t e = rw e (broken_first (record { place = first_place t; rule = Mismatch }) (value_mismatch names (Some v) t ++ faults_in names t))
-
-pub broken_steady : (names : Names) (v : Var) (t : Term) → is_varying names t ≡ false →
-    first_broken (value_mismatch names (Some v) t ++ faults_in names t) ≡ first_broken (constant_faults names v t)
-broken_steady names v t e = rw e refl
-
-pub varying_pre : (names : Names) (place : Place) (t : Term) → is_varying names (term.Unary unary.Pre place t) ≡ true
-unfolding hidden-the_row-Term-0 hidden
-varying_pre names place t = refl
-
 pub varying_minus : (names : Names) (place : Place) (t : Term) → is_varying names (term.Unary unary.Minus place t) ≡ is_varying names t
 unfolding hidden-the_row-Term-0 hidden
 varying_minus names place t = refl
@@ -158,9 +126,6 @@ varying_left names op place t u e f = varying_binary names op place t u ∙ rw (
 
 pub varying_right : (names : Names) (op : Binary) (place : Place) (t u : Term) → is_arrow op ≡ false → is_varying names t ≡ false → is_varying names (term.Binary op place t u) ≡ is_varying names u
 varying_right names op place t u e f = varying_binary names op place t u ∙ rw (e, f) refl
-
-pub varying_arrow : (names : Names) (op : Binary) (place : Place) (t u : Term) → is_arrow op ≡ true → is_varying names (term.Binary op place t u) ≡ true
-varying_arrow names op place t u e = varying_binary names op place t u ∙ rw e refl
 
 pub varying_test : (names : Names) (place : Place) (t u v : Term) → is_varying names t ≡ true → is_varying names (term.Choice place t u v) ≡ true
 varying_test names place t u v e = varying_choice names place t u v ∙ rw e refl

@@ -13,12 +13,13 @@ use Rattle.ag_annex.specs.declared.terms.Binary.{Binary}
 use Rattle.ag_annex.specs.declared.terms.Binary.TheVariants as binary
 use Rattle.ag_annex.specs.declared.terms.Term.{Term, Number, Truth, Named, Unary', Binary', Choice', Call', end_of-Term, more_of-Term}
 use Rattle.ag_annex.specs.declared.terms.Unary.TheVariants as unary
-use Rattle.ag_types.specs.declared.value.Value.{Value}
-use Rattle.ag_types.specs.declared.value.Value.TheVariants as value
-use Rattle.ag_types.specs.Constants.{is_varying, is_stream, carried, is_kept, AreKept, constant_position, value_at, value_of_unary, value_of_binary, value_of_choice, value_in}
+use Rattle.ag_symbols.specs.Seen.{Names, sought, position, position_from, value_named, var_name, is_stream, constant_position}
+use Rattle.ag_linear.specs.declared.value.Value.{Value}
+use Rattle.ag_linear.specs.declared.value.Value.TheVariants as value
+use Rattle.ag_linear.specs.Values.{carried, value_of_unary, value_of_binary, value_of_choice}
+use Rattle.ag_types.specs.Constants.{is_varying, AreKept, value_at, value_in, is_kept}
 use Rattle.ag_types.specs.NumberFaults.{passed_value, is_bad_divisor, bad_divisor, constant_faults_in}
 use Rattle.ag_types.specs.Places.{first_place}
-use Rattle.ag_types.specs.Seen.{Names, sought, position, position_from, value_named, var_name}
 use Rattle.ag_types.specs.SumRows.{IsValueOf}
 use Rattle.ag_types.specs.Types.{type_in, type_of_var, type_of_binary, needed_first, needed_second, mismatch, faults_in}
 use Rattle.ag_types.specs.Uses.{at_most_one, used_in}

@@ -12,14 +12,14 @@ use Rattle.ag_annex.specs.declared.clauses.Clause.{Clause}
 use Rattle.ag_annex.specs.declared.clauses.Clause.TheVariants as clause
 use Rattle.ag_annex.specs.declared.clauses.Var.{Var}
 use Rattle.ag_graph.specs.Circles.{AreCircles, IsOnCircle}
-use Rattle.ag_types.specs.declared.value.Value.{Value}
+use Rattle.ag_symbols.specs.Seen.{Seen, Names, clauses_seen, constants_in, library_names, frame_names, names_seen, over_sites, targets}
+use Rattle.ag_linear.specs.declared.value.Value.{Value}
 use Rattle.ag_types.specs.Answers.{Breaks, IsFirst}
-use Rattle.ag_types.specs.ClauseFaults.{declared, twice_among, targets, assign_in, second_source, constant_faults, clause_faults, faults_of}
+use Rattle.ag_types.specs.ClauseFaults.{declared, twice_among, assign_in, second_source, constant_faults, clause_faults, faults_of}
 use Rattle.ag_types.specs.Constants.{AreKept, is_varying}
 use Rattle.ag_types.specs.Firsts.{either}
 use Rattle.ag_types.specs.NumberFaults.{constant_faults_in, clause_numbers, number_faults}
 use Rattle.ag_types.specs.Places.{first_place, first_broken}
-use Rattle.ag_types.specs.Seen.{Seen, Names, clauses_seen, constants_in, library_names, frame_names, names_seen, over_sites}
 use Rattle.ag_types.specs.SumRows.{IsValueOf, HaveValues}
 use Rattle.ag_types.specs.Types.{type_in, mismatch, faults_in}
 use Rattle.ag_types.specs.Uses.{Constant, Declared, constant_in, constants_of, of_constant, of_node, uses_of, AreValues}

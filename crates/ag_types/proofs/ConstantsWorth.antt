@@ -7,13 +7,13 @@ use Rattle.ag_annex.specs.declared.clauses.Ty.{Ty}
 use Rattle.ag_annex.specs.declared.clauses.Ty.TheVariants.{Int, Bool as Boolean}
 use Rattle.ag_annex.specs.declared.clauses.Var.{Var}
 use Rattle.ag_graph.specs.Circles.{IsOnCircle}
-use Rattle.ag_types.specs.declared.value.Value.{Value}
+use Rattle.ag_symbols.specs.Seen.{Seen, names_seen}
+use Rattle.ag_linear.specs.declared.value.Value.{Value}
 use Rattle.ag_types.specs.ClauseFaults.{constant_faults}
 use Rattle.ag_types.specs.Constants.{exact_value}
 use Rattle.ag_types.specs.ConstantWorth.{AreWorth}
 use Rattle.ag_types.specs.Meaning.{number, worth}
 use Rattle.ag_types.specs.NumberFaults.{constant_faults_in}
-use Rattle.ag_types.specs.Seen.{Seen, names_seen}
 use Rattle.ag_types.specs.SumRows.{IsValueOf, HaveValues}
 use Rattle.ag_types.specs.Uses.{Constant, constants_of, uses_of, AreValues}
 use Rattle.ag_types.proofs.ConstantsTyped.{var_of, vars_of_scope}

@@ -8,8 +8,8 @@ use Rattle.std.proofs.lemmas.List.{drop_all}
 use Rattle.ag_base.specs.declared.place.Refusal.{Refusal}
 use Rattle.ag_aadl.specs.Words.{same}
 use Rattle.ag_annex.specs.declared.clauses.Equal.{Equal}
+use Rattle.ag_symbols.specs.Indexed.{first_by}
 use Rattle.ag_types.specs.Firsts.{either}
-use Rattle.ag_types.specs.Indexed.{first_by}
 use Rattle.ag_types.specs.Places.{first_broken}
 use Rattle.ag_types.proofs.Breaking.{either-none, either-assoc, first_broken-append}
 

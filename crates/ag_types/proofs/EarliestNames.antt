@@ -15,12 +15,13 @@ use Rattle.std.proofs.lemmas.List.Sorted.{ranks_by, sorted_far}
 use Rattle.ag_base.specs.declared.place.Place.{Place}
 use Rattle.ag_aadl.specs.declared.packages.Ident.{Ident}
 use Rattle.ag_aadl.specs.Words.{same}
+use Rattle.ag_symbols.specs.Indexed.{folded, compare_names, is_below, first_by}
+use Rattle.ag_symbols.proofs.Orders.{equal, same_is_equal}
+use Rattle.ag_linear.proofs.Merges.{both_hold}
 use Rattle.ag_types.specs.ClauseFaults.{is_declared_before}
 use Rattle.ag_types.specs.Earliest.{stands_before, any_before, compare_places, compare_idents, is_in_front, is_behind, IsNext}
-use Rattle.ag_types.specs.Indexed.{folded, compare_names, is_below, first_by}
 use Rattle.ag_types.specs.Places.{is_before}
 use Rattle.ag_types.proofs.Breaking.{pairwise, pairwise-skips, nat_lt-skips}
-use Rattle.ag_types.proofs.Orders.{same_is_equal}
 
 -- ---- the order of places
 
@@ -73,40 +74,30 @@ then_first Greater b e = refl
 pub below_sorted : {X : Type 0} (item : X → Ident) (xs : List X) → IsSortedBy (is_in_front item) xs → IsSortedBy (is_below (λ x. (item x).text)) xs
 below_sorted item xs sorted k d l h = then_first _ _ (sorted k d l h)
 
-equal_is : (o : Ordering) → is_eq o ≡ true → o ≡ Equal
-equal_is Less e = cc
-equal_is Equal e = refl
-equal_is Greater e = cc
-
 less_is : (a b : Ordering) → is_lt (ordering_then a b) ≡ true → is_eq a ≡ false → a ≡ Less
 less_is Less b e f = refl
 less_is Equal b e f = cc
 less_is Greater b e f = cc
 
 equal_texts : (a b : List ℕ) → same a b ≡ true → compare_names a b ≡ Equal
-equal_texts a b e = equal_is (compare_names a b) (sym (same_is_equal a b) ∙ e)
+equal_texts a b e = equal (compare_names a b) (sym (same_is_equal a b) ∙ e)
 
 -- of one text the place decides
 front_of_one : (i j : Ident) → compare_names i.text j.text ≡ Equal → is_lt (compare_idents i j) ≡ is_before i.place j.place
 front_of_one i j e = ap (λ (z : Ordering). is_lt (ordering_then z (compare_places i.place j.place))) e ∙ before_is i.place j.place
 
-two : (a b : Bool) → (a && b) ≡ true → (a ≡ true) × (b ≡ true)
-two true true e = (refl, refl)
-two true false e = cc
-two false b e = cc
-
 both_true : (a b : Bool) → a ≡ true → b ≡ true → (a && b) ≡ true
 both_true a b e f = rw (e, f) refl
 
 behind_texts : (i j : Ident) → is_behind i j ≡ true → compare_names i.text j.text ≡ Equal
-behind_texts i j e = equal_texts i.text j.text ((two (same i.text j.text) (is_before i.place j.place) e).0)
+behind_texts i j e = equal_texts i.text j.text ((both_hold (same i.text j.text) (is_before i.place j.place) e).0)
 
 behind_in_front : (i j : Ident) → is_behind i j ≡ true → is_lt (compare_idents i j) ≡ true
-behind_in_front i j e = front_of_one i j (behind_texts i j e) ∙ (two (same i.text j.text) (is_before i.place j.place) e).1
+behind_in_front i j e = front_of_one i j (behind_texts i j e) ∙ (both_hold (same i.text j.text) (is_before i.place j.place) e).1
 
 front_is_behind : (i j : Ident) → is_eq (compare_names i.text j.text) ≡ true → is_lt (compare_idents i j) ≡ true → is_behind i j ≡ true
 front_is_behind i j e f =
-    both_true (same i.text j.text) (is_before i.place j.place) (same_is_equal i.text j.text ∙ e) (sym (front_of_one i j (equal_is (compare_names i.text j.text) e)) ∙ f)
+    both_true (same i.text j.text) (is_before i.place j.place) (same_is_equal i.text j.text ∙ e) (sym (front_of_one i j (equal (compare_names i.text j.text) e)) ∙ f)
 
 -- ---- whether one of a name stands before
 
@@ -229,7 +220,7 @@ module _ {Y : Type 0} (named : Y → Ident) (i : Ident) (ys : List Y) (at : ℕ)
       front_is_behind i (named x) one first_front,
       λ j h e.
           let p = placed j h e in
-          let texts : compare_names j.text (named x).text ≡ Equal = texts_of j e ∙ equal_is (compare_names i.text (named x).text) one in
+          let texts : compare_names j.text (named x).text ≡ Equal = texts_of j e ∙ equal (compare_names i.text (named x).text) one in
           sym (front_of_one j (named x) texts) ∙ ap (λ (z : Ident). is_lt (compare_idents z (named x))) (sym p.3) ∙ far_from p.0 p.1 p.2,
     )
 

@@ -7,9 +7,9 @@ use Rattle.std.proofs.lemmas.List.{length-replicate, length-set, length-map, get
 use Rattle.std.proofs.lemmas.List.Elements.{All-set, All-replicate, Contains-append_left}
 use Rattle.std.proofs.lemmas.Option.{slice_get_within, slice_get_cases}
 use Rattle.ag_graph.specs.Circles.{AreCircles, IsOnCircle, Leads, at_once}
-use Rattle.ag_types.specs.declared.value.Value.{Value}
+use Rattle.ag_symbols.specs.Seen.{Seen, over_sites}
+use Rattle.ag_linear.specs.declared.value.Value.{Value}
 use Rattle.ag_types.specs.Constants.{AreKept, is_kept}
-use Rattle.ag_types.specs.Seen.{Seen, over_sites}
 use Rattle.ag_types.specs.Uses.{Constant, Declared, constants_of, of_constant, of_node, declared_of, used_in, used_by, uses_of, declared_value, AreValues}
 use Rattle.ag_types.proofs.Once.{one_place}
 use Rattle.ag_types.proofs.Valuing.{same_declared}
@@ -59,17 +59,6 @@ none_evaluated s order values e =
       circular = λ i on. none_at (length (constants_of s)) i;
       done = λ j h. absurd (omega arith);
     })
-
--- one that is no constant, or uses itself
-pub passed_over : (s : Seen) (order : List ℕ) (k : ℕ) (values : List (Option Value)) → AreEvaluated s order k values →
-    (get_or order k 0 < length (constants_of s) → (IsOnCircle (uses_of s) (get_or order k 0) → ⊥) → ⊥) → AreEvaluated s order (k + 1) values
-passed_over s order k values i off = record {
-  long = i.long;
-  kept = i.kept;
-  circular = i.circular;
-  done = below_more (λ j. (w : ℕ) → get_or order j 0 ≡ w → (IsOnCircle (uses_of s) w → ⊥) → (c : Constant) → slice_get (constants_of s) w ≡ Some c → slice_index_or values w None ≡ declared_value values c) k i.done
-      (λ w at free c e. absurd (off (let h = slice_get_within (constants_of s) w c e in omega arith) (λ on. free (subst (IsOnCircle (uses_of s)) at on))));
-}
 
 -- the uses of what is behind us have stood still
 uses_still : (s : Seen) (on_circle : List Bool) (order : List ℕ) → AreCircles (uses_of s) on_circle order → (k j w u : ℕ) (c : Constant) → k < length order → j < k → get_or order j 0 ≡ w →

@@ -10,15 +10,16 @@ use Rattle.ag_annex.specs.declared.clauses.Var.{Var}
 use Rattle.ag_annex.specs.declared.terms.Term.{Term}
 use Rattle.ag_stream.specs.Forms as forms
 use Rattle.ag_stream.specs.Runs.{magnitude}
-use Rattle.ag_types.specs.declared.value.Factor.{Factor}
-use Rattle.ag_types.specs.declared.value.Value.{Value}
+use Rattle.ag_symbols.specs.Seen.{Names}
+use Rattle.ag_linear.specs.declared.value.Factor.{Factor}
+use Rattle.ag_linear.specs.declared.value.Value.{Value}
+use Rattle.ag_linear.specs.RowOrder.{AreInOrder}
+use Rattle.ag_linear.specs.Rows.{Linear, is_factor, is_zero, keeps_row, precedes}
+use Rattle.ag_linear.proofs.Merges.{both_hold}
 use Rattle.ag_types.specs.Constants.{is_varying}
-use Rattle.ag_types.specs.RowOrder.{AreInOrder}
-use Rattle.ag_types.specs.Rows.{Linear, is_factor, is_zero, keeps_row, precedes}
-use Rattle.ag_types.specs.Seen.{Names}
 use Rattle.ag_types.specs.SumRows.{IsWholeStream, KeepsLimits, IsSumRow, numbered, numbered_row}
 use Rattle.ag_types.specs.Sums.{is_sum, is_whole, whole_streams, IsWithinLimits}
-use Rattle.ag_types.proofs.WorthOfFactors.{both_true, equal_numbers}
+use Rattle.ag_types.proofs.WorthOfFactors.{equal_numbers}
 use Rattle.ag_types.proofs.WorthOfNames.{kept_at}
 use Rattle.ag_types.proofs.WorthOfRows.{sum_has_whole_streams}
 use Rattle.ag_types.proofs.WorthOfSums.{AreWholeStreams}
@@ -63,7 +64,7 @@ term_before names f g h e = by (nat_lt f.stream g.stream) refl e
         forms.IsBefore (numbered names f) (numbered names g)
     by true lt i = inl (number_rises names.streams f.stream g.stream h (below f.stream g.stream lt))
     by false lt i =
-        let parts = both_true (f.stream == g.stream) (not f.before && g.before) i in
+        let parts = both_hold (f.stream == g.stream) (not f.before && g.before) i in
         let flags = flags_of f.before g.before parts.1 in
         inr (ap (λ (k : ℕ). length (filter is_whole (take k names.streams))) (equal_numbers f.stream g.stream parts.0), flags.0, flags.1)
 
@@ -71,7 +72,7 @@ terms_in_order : (names : Names) (fs : List Factor) → AreWholeStreams names.st
 terms_in_order names [] h order = tt
 terms_in_order names (f ∷ []) h order = tt
 terms_in_order names (f ∷ g ∷ gs) h order =
-    let first = both_true (precedes f g) (list_all (precedes f) gs) order.0 in
+    let first = both_hold (precedes f g) (list_all (precedes f) gs) order.0 in
     (term_before names f g h.0 first.0, terms_in_order names (g ∷ gs) h.1 order.2)
 
 -- ---- limits
@@ -93,7 +94,7 @@ terms_are_formed : (names : Names) (fs : List Factor) → AreWholeStreams names.
     All (forms.IsTerm (length (whole_streams names))) (map (numbered names) fs)
 terms_are_formed names [] h order small = All-nil (forms.IsTerm (length (whole_streams names)))
 terms_are_formed names (f ∷ fs) h order small =
-    let limits = both_true (is_factor f.factor) (list_all (λ g. is_factor g.factor) fs) small in
+    let limits = both_hold (is_factor f.factor) (list_all (λ g. is_factor g.factor) fs) small in
     let first : forms.IsTerm (length (whole_streams names)) (numbered names f) = record {
       stream = number_within names.streams f.stream h.0;
       factor = not_zero f.factor order.1;
@@ -113,9 +114,9 @@ kept_parts row e =
     let count = not (nat_lt 1024 (length row.factors + length row.hidden)) in
     let hidden = list_all is_factor row.hidden in
     let factors = list_all (λ f. is_factor f.factor) row.factors in
-    let first = both_true (not (nat_lt 281474976710656 (unsigned_abs row.constant))) (factors && (hidden && count)) e in
-    let second = both_true factors (hidden && count) first.1 in
-    let third = both_true hidden count second.1 in
+    let first = both_hold (not (nat_lt 281474976710656 (unsigned_abs row.constant))) (factors && (hidden && count)) e in
+    let second = both_hold factors (hidden && count) first.1 in
+    let third = both_hold hidden count second.1 in
     record { constant = first.0; factors = second.0; hidden = third.0; count = third.1 }
 
 limits_kept : (names : Names) (row : Linear) (varies : Bool) → AreWholeStreams names.streams row.factors → AreInOrder row.factors → KeepsLimits varies row →

@@ -11,10 +11,9 @@ use Rattle.ag_annex.specs.declared.clauses.Clause.{Clause}
 use Rattle.ag_annex.specs.declared.clauses.Clause.TheVariants as clause
 use Rattle.ag_annex.specs.declared.terms.Term.{Term, Number, Truth, Named, Unary', Binary', Choice', Call', Row_of-Term, end_of-Term, more_of-Term}
 use Rattle.ag_graph.specs.Circles.{IsGraph}
-use Rattle.ag_types.specs.Constants.{is_stream, constant_position}
-use Rattle.ag_types.specs.Seen.{Seen, Names, constants_in, nodes_in, clauses_seen, library_names, frame_names, names_seen, over_sites, sought, position, var_name, node_name}
-use Rattle.ag_types.specs.Uses.{constant_in, constants_of, of_constant, of_node, declared_of, at_most_one, behind, used_in, used_in_all, used_by, uses_of}
+use Rattle.ag_symbols.specs.Seen.{Seen, Names, constants_in, nodes_in, clauses_seen, library_names, frame_names, names_seen, over_sites, sought, position, var_name, node_name, is_stream, constant_position}
 use Rattle.ag_types.proofs.Positions.{position_within, same_number}
+use Rattle.ag_types.specs.Uses.{constant_in, constants_of, of_constant, of_node, declared_of, at_most_one, behind, used_in, used_in_all, used_by, uses_of}
 
 -- no more constants and nodes are seen than these
 abbrev AreFew : ℕ → ℕ → Names → Type 0

@@ -12,7 +12,7 @@ use Rattle.ag_types.specs.Earliest.{is_behind, IsNext}
 use Rattle.ag_types.specs.Firsts.{either}
 use Rattle.ag_types.specs.Places.{is_before, first_broken}
 use Rattle.ag_types.proofs.Breaking.{either-assoc, either-none, first_broken-append}
-use Rattle.ag_types.proofs.BreakingMore.{split_at}
+use Rattle.ag_symbols.proofs.Placing.{split_at}
 use Rattle.ag_types.proofs.Leasts.{Member, AreAll, member_left, member_right, member_cases, member_from, member_to, least_is_first, same_members}
 
 -- the rule that a name breaks which is declared twice

@@ -14,16 +14,18 @@ use Rattle.ag_annex.specs.declared.clauses.Ty.TheVariants.{Int}
 use Rattle.ag_annex.specs.declared.clauses.Var.{Var}
 use Rattle.ag_annex.specs.declared.terms.Term.{Term}
 use Rattle.ag_stream.specs.declared.problem.Row.{Row}
+use Rattle.ag_symbols.specs.Seen.{Seen, Names, names_seen}
+use Rattle.ag_linear.specs.declared.value.Factor.{Factor}
+use Rattle.ag_linear.specs.declared.value.Value.{Value}
+use Rattle.ag_linear.specs.Values.{is_within}
+use Rattle.ag_linear.specs.RowOrder.{AreInOrder}
+use Rattle.ag_linear.specs.Rows.{Linear, is_factor}
+use Rattle.ag_linear.proofs.Merges.{both_hold}
 use Rattle.ag_types.specs.declared.numbered.Numbered.{Numbered}
-use Rattle.ag_types.specs.declared.value.Factor.{Factor}
-use Rattle.ag_types.specs.declared.value.Value.{Value}
-use Rattle.ag_types.specs.Constants.{is_varying, is_within}
+use Rattle.ag_types.specs.Constants.{is_varying}
 use Rattle.ag_types.specs.Firsts.{either}
 use Rattle.ag_types.specs.Numbered.{known}
 use Rattle.ag_types.specs.Places.{first_place, first_broken}
-use Rattle.ag_types.specs.RowOrder.{AreInOrder}
-use Rattle.ag_types.specs.Rows.{Linear, is_factor, keeps_row}
-use Rattle.ag_types.specs.Seen.{Seen, Names, names_seen}
 use Rattle.ag_types.specs.SumRows.{IsWholeStream, IsTerm, KeepsLimits, IsSumRow, numbered_row}
 use Rattle.ag_types.specs.Sums.{is_sum, sum_faults, IsRowOf, IsNoRow}
 use Rattle.ag_types.specs.Types.{type_in, faults_in, mismatch}
@@ -31,7 +33,6 @@ use Rattle.ag_types.specs.Uses.{AreValues}
 use Rattle.ag_types.proofs.FormedRows.{kept_parts, rows_are_formed}
 use Rattle.ag_types.proofs.NumberedWorth.{numbered_is_worth}
 use Rattle.ag_types.proofs.SumsHaveRows.{sum_broken}
-use Rattle.ag_types.proofs.WorthOfFactors.{both_true}
 use Rattle.ag_types.proofs.WorthOfRows.{sum_has_whole_streams}
 use Rattle.ag_types.proofs.WorthOfSums.{AreWholeStreams}
 
@@ -69,7 +70,7 @@ sum_constant names values t row is = kept_constant row (is_varying names t) is.k
 are_terms : (streams : List Var) (fs : List Factor) → AreWholeStreams streams fs → list_all (λ f. is_factor f.factor) fs ≡ true → All (IsTerm streams) fs
 are_terms streams [] h e = All-nil (IsTerm streams)
 are_terms streams (f ∷ fs) h e =
-    let parts = both_true (is_factor f.factor) (list_all (λ g. is_factor g.factor) fs) e in
+    let parts = both_hold (is_factor f.factor) (list_all (λ g. is_factor g.factor) fs) e in
     let first : IsTerm streams f = record { stream = h.0; kept = parts.0 } in
     All-cons (IsTerm streams) f fs first (are_terms streams fs h.1 parts.1)
 

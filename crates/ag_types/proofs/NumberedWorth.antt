@@ -6,11 +6,12 @@ use Rattle.std.proofs.lemmas.Option.{slice_get-map, get_or_from_slice_get}
 use Rattle.ag_annex.specs.declared.clauses.Var.{Var}
 use Rattle.ag_annex.specs.declared.terms.Term.{Term}
 use Rattle.ag_stream.specs.Values.{side, whole_at, terms_value, row_value}
-use Rattle.ag_types.specs.declared.value.Factor.{Factor}
-use Rattle.ag_types.specs.declared.value.Value.{Value}
+use Rattle.ag_symbols.specs.Seen.{Names}
+use Rattle.ag_linear.specs.declared.value.Factor.{Factor}
+use Rattle.ag_linear.specs.declared.value.Value.{Value}
+use Rattle.ag_linear.specs.Rows.{Linear}
 use Rattle.ag_types.specs.Meaning.{Reading, Run, stream_of, worth}
-use Rattle.ag_types.specs.Rows.{Linear, row_in}
-use Rattle.ag_types.specs.Seen.{Names}
+use Rattle.ag_types.specs.Rows.{row_in}
 use Rattle.ag_types.specs.SumRows.{numbered, numbered_row}
 use Rattle.ag_types.specs.Sums.{is_sum, is_whole, moment_of}
 use Rattle.ag_types.proofs.WorthOfFactors.{weighed}

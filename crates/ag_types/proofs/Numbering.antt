@@ -1,9 +1,8 @@
 -- What is known of an expression of the rules on numbers, by its operands.
 use denote.Hole.Carrier.{hidden}
-use Rattle.std.proofs.Common.{◌≡◌, ℕ, ℤ, ltb, ◌+◌, Bool, true, false, not, ◌&&◌, ◌||◌, List, [], ◌∷◌, ◌++◌, length, drop, get_or, arith, ◌<◌, refl, inl, inr, ap, sym, ◌∙◌, add-one, drop-cons}
+use Rattle.std.proofs.Common.{◌≡◌, ℕ, ℤ, ltb, ◌+◌, Bool, true, false, not, ◌&&◌, ◌||◌, List, [], ◌∷◌, ◌++◌, length, drop, get_or, ◌<◌, refl, inl, inr, ap, sym, ◌∙◌, add-one, drop-cons}
 use Rattle.std.specs.Prelude.{Option, Some, None, if◌then◌else◌}
 use Rattle.std.proofs.lemmas.Bool.{cases_Bool, ltb-true, ltb-false}
-use Rattle.std.proofs.lemmas.Bool.Decides.{nat_tests}
 use Rattle.std.proofs.lemmas.List.{get_or_past}
 use Rattle.ag_base.specs.declared.place.Place.{Place}
 use Rattle.ag_base.specs.declared.place.Refusal.{Refusal}
@@ -17,30 +16,25 @@ use Rattle.ag_annex.specs.declared.terms.Unary.TheVariants as unary
 use Rattle.ag_annex.specs.declared.terms.Term.{Term, Named, Row_of-Term, end_of-Term, more_of-Term, items-the_row-Term, items_hidden-the_row-Term-1}
 use Rattle.ag_annex.specs.declared.terms.Term.TheBlock.{hidden-the_row-Term-0, hidden-the_row-Term-1}
 use Rattle.ag_annex.specs.declared.terms.Term.TheViews as term
+use Rattle.ag_symbols.specs.Seen.{Names, node_of, sought, constant_position}
+use Rattle.ag_linear.specs.declared.value.Value.{Value}
+use Rattle.ag_linear.specs.declared.value.Value.TheVariants as value
+use Rattle.ag_linear.specs.Values.{is_carried, carried, value_of_unary, value_of_binary, value_of_choice}
+use Rattle.ag_linear.specs.Rows.{passes_limits, Linear, stream_row}
 use Rattle.ag_types.specs.declared.numbered.Faults.{Faults}
 use Rattle.ag_types.specs.declared.numbered.Head.{Head}
 use Rattle.ag_types.specs.declared.numbered.Numbered.{Numbered}
-use Rattle.ag_types.specs.declared.value.Value.{Value}
-use Rattle.ag_types.specs.declared.value.Value.TheVariants as value
-use Rattle.ag_types.specs.Constants.{constant_position, is_varying, is_within, is_carried, is_kept, carried, value_at, value_of_unary, value_of_binary, value_of_choice, exact_value, value_in, AreKept}
+use Rattle.ag_types.specs.Constants.{is_varying, value_at, exact_value, value_in, AreKept}
 use Rattle.ag_types.specs.Firsts.{either}
-use Rattle.ag_types.specs.NumberFaults.{coefficient, passes_limits, passed_value, bad_divisor, constant_faults_in, constant_faults_in_all, equation_row, product, operand_rows, formula_faults, parts_faults, parts_faults_all, side_faults}
+use Rattle.ag_types.specs.NumberFaults.{coefficient, passed_value, bad_divisor, constant_faults_in, constant_faults_in_all, equation_row, product, operand_rows, formula_faults, parts_faults, parts_faults_all, side_faults}
 use Rattle.ag_types.specs.Numbered.{known, held, is_whole, closed, named_stream, row_before, exact_of_unary, exact_of_binary, own_equation, product_of, compared_of, operands_of, varies_between, unary_head, unary_breaks, unary_by, binary_head, binary_breaks, binary_by, choice_head, choice_breaks, choice_fault, choice_by, named_by, call_by, constants_among, parts_among, breaks_among}
 use Rattle.ag_types.specs.Places.{first_place, first_broken, path_place, earlier}
-use Rattle.ag_types.specs.Rows.{Linear, row_of_hidden, row_of_pre, stream_row, exact_row, whole_stream}
-use Rattle.ag_types.specs.Seen.{Names, node_of, sought}
+use Rattle.ag_types.specs.Rows.{row_of_hidden, row_of_pre, exact_row, whole_stream}
 use Rattle.ag_types.specs.Types.{type_in, type_of_binary}
 use Rattle.ag_types.proofs.Breaking.{either-assoc, first_broken-append}
+use Rattle.ag_types.proofs.TypedOperators.{kept_is_carried}
 
 -- ---- values of 128 bits
-
-within_carried : (z : ℤ) → is_within z ≡ true → is_carried z ≡ true
-within_carried z e = grind (arith, nat_tests)
-
-kept_carried : (v : Option Value) → is_kept v ≡ true → carried v ≡ v
-kept_carried None e = refl
-kept_carried (Some (value.Truth b)) e = refl
-kept_carried (Some (value.Whole z)) e = rw (within_carried z e) refl
 
 carried_whole : (z : ℤ) (b : Bool) → is_carried z ≡ b → carried (carried (Some (value.Whole z))) ≡ carried (Some (value.Whole z))
 carried_whole z true e = rw e (rw e refl)
@@ -263,7 +257,7 @@ kept_at : (values : List (Option Value)) (o : Option ℕ) → AreKept values →
 kept_at values None all = refl
 kept_at values (Some at) all =
     elim (cases_Bool (ltb at (length values))) [
-      | inl e ↦ kept_carried (get_or values at None) (all at None (ltb-true at (length values) e))
+      | inl e ↦ kept_is_carried (get_or values at None) (all at None (ltb-true at (length values) e))
       | inr e ↦ ap carried (get_or_past values at None (ltb-false at (length values) e)) ∙ sym (get_or_past values at None (ltb-false at (length values) e))
     ]
 

@@ -4,12 +4,12 @@ use Rattle.std.specs.Prelude.{Option, Some}
 use Rattle.std.proofs.lemmas.Bool.Decides.{nat_tests}
 use Rattle.ag_base.specs.declared.place.Refusal.{Refusal}
 use Rattle.ag_graph.specs.Circles.{AreCircles}
-use Rattle.ag_types.specs.declared.value.Value.{Value}
+use Rattle.ag_symbols.specs.Seen.{Seen}
+use Rattle.ag_linear.specs.declared.value.Value.{Value}
 use Rattle.ag_types.specs.Answers.{Breaks, IsFirst, IsRefusal, IsSound}
 use Rattle.ag_types.specs.ClauseFaults.{faults_of}
 use Rattle.ag_types.specs.NumberFaults.{number_faults}
 use Rattle.ag_types.specs.Places.{is_before, order_of}
-use Rattle.ag_types.specs.Seen.{Seen}
 use Rattle.ag_types.specs.Uses.{uses_of}
 use Rattle.ag_types.proofs.Evaluating.{one_list}
 use Rattle.ag_types.proofs.Leasts.{same_place, same_refusal}

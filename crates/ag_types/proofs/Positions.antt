@@ -4,7 +4,7 @@ use Rattle.std.specs.Prelude.{Option, Some, None, if◌then◌else◌}
 use Rattle.std.proofs.lemmas.Bool.{cases_Bool}
 use Rattle.ag_aadl.specs.declared.packages.Ident.{Ident}
 use Rattle.ag_aadl.specs.Words.{same}
-use Rattle.ag_types.specs.Seen.{position, position_from}
+use Rattle.ag_symbols.specs.Seen.{position, position_from}
 
 pub same_number : (at found : ℕ) → Some at ≡ Some found → at ≡ found
 same_number at found e = cc

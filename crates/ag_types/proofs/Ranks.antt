@@ -8,8 +8,8 @@ use Rattle.ag_base.specs.declared.place.Refusal.{Refusal}
 use Rattle.ag_base.specs.declared.place.Rule.{Rule}
 use Rattle.ag_base.specs.declared.place.Rule.TheVariants.{Twice, TwoSources, Unknown, Mismatch, Arity, NodeRecursion, NotLinear, BadDivisor, Coefficient}
 use Rattle.ag_annex.specs.declared.clauses.Clause.{Clause}
+use Rattle.ag_symbols.specs.Seen.{Seen, Names, library_names, frame_names, names_seen, over_sites}
 use Rattle.ag_types.specs.Places.{order_of}
-use Rattle.ag_types.specs.Seen.{Seen, Names, library_names, frame_names, names_seen, over_sites}
 
 -- its rule is one of these; any other stands behind them all
 abbrev pub IsRanked : Refusal → Type 0

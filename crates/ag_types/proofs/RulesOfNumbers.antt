@@ -10,21 +10,23 @@ use Rattle.ag_annex.specs.declared.terms.Binary.TheVariants as binary
 use Rattle.ag_annex.specs.declared.terms.Term.{Term, Number, Truth, Named, Unary', Binary', Choice', Call', Row_of-Term, end_of-Term, more_of-Term}
 use Rattle.ag_annex.specs.declared.terms.Unary.{Unary}
 use Rattle.ag_annex.specs.declared.terms.Unary.TheVariants as unary
-use Rattle.ag_types.specs.declared.value.Value.{Value}
+use Rattle.ag_symbols.specs.Seen.{Seen, Names, names_of_node}
+use Rattle.ag_linear.specs.declared.value.Value.{Value}
+use Rattle.ag_linear.specs.Rows.{Linear, passes_limits}
+use Rattle.ag_linear.specs.Values.{passes_limit}
 use Rattle.ag_types.specs.Constants.{is_varying, exact_value, value_in}
 use Rattle.ag_types.specs.NumberFaults as faults
 use Rattle.ag_types.specs.Places.{first_place}
-use Rattle.ag_types.specs.Rows.{Linear, exact_row, row_in}
-use Rattle.ag_types.specs.Seen.{Seen, Names, names_of_node}
+use Rattle.ag_types.specs.Rows.{exact_row, row_in}
 use Rattle.ag_types.proofs.Ranks.{AreRanked, none, both, choice, where_true, each, over}
 
 -- ---- limits and divisors
 
 of_value : (v : Option Value) (place : Place) → AreRanked (faults.passed_value v place)
-of_value v place = where_true (faults.passes_limit v) place Coefficient (omega arith)
+of_value v place = where_true (passes_limit v) place Coefficient (omega arith)
 
 of_row : (r : Option Linear) (place : Place) → AreRanked (faults.passed_row r place)
-of_row r place = where_true (faults.passes_limits r) place Coefficient (omega arith)
+of_row r place = where_true (passes_limits r) place Coefficient (omega arith)
 
 of_own_row : (names : Names) (values : List (Option Value)) (t : Term) → AreRanked (faults.own_row names values t)
 of_own_row names values t = choice (is_varying names t) (of_row (exact_row names values t) (first_place t)) none

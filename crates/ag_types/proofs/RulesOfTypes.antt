@@ -17,10 +17,10 @@ use Rattle.ag_annex.specs.declared.clauses.Ty.TheVariants.{Int, Bool as Boolean}
 use Rattle.ag_annex.specs.declared.clauses.Var.{Var}
 use Rattle.ag_annex.specs.declared.terms.Term.{Term, Number, Truth, Named, Unary', Binary', Choice', Call', Row_of-Term, end_of-Term, more_of-Term}
 use Rattle.ag_annex.specs.declared.terms.Unary.TheVariants as unary
+use Rattle.ag_symbols.specs.Seen.{Seen, Names, clauses_seen, node_vars, names_of_node, value_of, node_of, value_named, targets}
 use Rattle.ag_types.specs.ClauseFaults as faults
 use Rattle.ag_types.specs.Constants.{is_varying}
 use Rattle.ag_types.specs.Places.{path_place, first_place}
-use Rattle.ag_types.specs.Seen.{Seen, Names, clauses_seen, node_vars, names_of_node, value_of, node_of, value_named}
 use Rattle.ag_types.specs.Types.{type_in, same_type, needed_first, needed_second, mismatch, arity, unknown, argument_mismatches, arguments_in, call_faults, value_faults, faults_in, faults_in_all}
 use Rattle.ag_types.proofs.Ranks.{AreRanked, none, one, both, choice, where_true, each, over}
 
@@ -92,7 +92,7 @@ of_target (Some v) place = none
 of_sources : (s : Seen) (assigns : List Ident) → AreRanked (flat_map (faults.second_source s assigns) assigns)
 of_sources s assigns =
     each (faults.second_source s assigns) assigns
-    (λ i. where_true (not (is_none (value_named i.text (faults.targets s))) && faults.has_source s assigns i) i.place TwoSources (omega arith))
+    (λ i. where_true (not (is_none (value_named i.text (targets s))) && faults.has_source s assigns i) i.place TwoSources (omega arith))
 
 of_unset : (set : List Ident) (vars : List Var) → AreRanked (flat_map (faults.unset set) vars)
 of_unset set vars = each (faults.unset set) vars (λ v. choice (list_any (λ i. same i.text v.name.text) set) none (of_unknown v.name.place))
@@ -164,5 +164,5 @@ of_clause others names (clause.Node n) = of_node names n
 pub of_types : (s : Seen) → AreRanked (faults.faults_of s)
 of_types s =
     both (of_names (faults.declared s) (faults.declared s))
-    (both (over (faults.clause_faults (faults.targets s)) s (of_clause (faults.targets s)))
+    (both (over (faults.clause_faults (targets s)) s (of_clause (targets s)))
     (of_sources s (flat_map faults.assign_in (clauses_seen s))))

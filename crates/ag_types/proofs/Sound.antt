@@ -13,8 +13,8 @@ use Rattle.ag_annex.specs.declared.terms.Binary.{Binary}
 use Rattle.ag_annex.specs.declared.terms.Binary.TheVariants.{Arrow, Implies, Iff, Or, And, Less, AtMost, More, AtLeast, Same, Differs, Plus, Minus, Times, Div, Mod}
 use Rattle.ag_annex.specs.declared.terms.Term.{Term, Number, Truth, Named, Unary', Binary', Choice', Call', Row_of-Term, end_of-Term, more_of-Term}
 use Rattle.ag_annex.specs.declared.terms.Unary.TheVariants as unary
+use Rattle.ag_symbols.specs.Seen.{Names, value_of, node_of}
 use Rattle.ag_types.specs.Places.{path_place, first_broken}
-use Rattle.ag_types.specs.Seen.{Names, value_of, node_of}
 use Rattle.ag_types.specs.Types.{type_in, type_of_var, type_of_binary, type_of_call, type_of_outputs, faults_in, value_faults, call_faults, argument_mismatches, arguments_in, arity, IsTyped, IsIllTyped}
 use Rattle.ag_types.proofs.Breaking.{unbroken}
 

@@ -7,9 +7,9 @@ use Rattle.ag_annex.specs.declared.terms.Unary.TheVariants as unary
 use Rattle.ag_annex.specs.declared.terms.Term.{Term, Number, Truth, Named, Unary', Binary', Choice', Call', end_of-Term, more_of-Term}
 use Rattle.ag_annex.specs.declared.terms.Term.TheBlock.{hidden-the_row-Term-0}
 use Rattle.ag_annex.specs.declared.terms.Term.TheViews as term
+use Rattle.ag_symbols.specs.Seen.{Names}
 use Rattle.ag_types.specs.ClauseFirsts.{is_arrow}
 use Rattle.ag_types.specs.Constants.{is_varying}
-use Rattle.ag_types.specs.Seen.{Names}
 use Rattle.ag_types.specs.Sums.{adds, is_named_stream, is_sum}
 use Rattle.ag_types.proofs.Claiming.{varying_binary}
 
@@ -24,10 +24,6 @@ sum_minus names place t = refl
 pub sum_not : (names : Names) (place : Place) (t : Term) → is_sum names (term.Unary unary.Not place t) ≡ is_sum names t
 unfolding hidden-the_row-Term-0 hidden
 sum_not names place t = refl
-
-pub sum_choice : (names : Names) (place : Place) (t u v : Term) → is_sum names (term.Choice place t u v) ≡ not (is_varying names (term.Choice place t u v))
-unfolding hidden-the_row-Term-0 hidden
-sum_choice names place t u v = refl
 
 sum_binary : (names : Names) (op : Binary) (place : Place) (t u : Term) →
     is_sum names (term.Binary op place t u) ≡ (not (is_varying names (term.Binary op place t u)) || (adds op && (is_sum names t && is_sum names u)))

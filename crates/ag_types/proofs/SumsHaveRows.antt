@@ -1,8 +1,6 @@
 -- An integer sum that breaks no rule has a row, which keeps its limits.
-use Rattle.std.proofs.Common.{◌≡◌, ℕ, ℤ, Bool, true, false, not, nat_lt, List, [], ◌∷◌, ◌++◌, refl, subst, arith}
-use Rattle.std.specs.Prelude.{negsuc, unsigned_abs, Option, Some, None, is_none, if◌then◌else◌}
-use Rattle.std.specs.List.{list_all}
-use Rattle.std.proofs.lemmas.Bool.Decides.{nat_tests}
+use Rattle.std.proofs.Common.{◌≡◌, ℕ, Bool, true, false, not, List, [], ◌++◌, refl, subst}
+use Rattle.std.specs.Prelude.{negsuc, Option, Some, None, is_none, if◌then◌else◌}
 use Rattle.ag_base.specs.declared.place.Place.{Place}
 use Rattle.ag_base.specs.declared.place.Refusal.{Refusal}
 use Rattle.ag_annex.specs.declared.clauses.Ty.{Ty}
@@ -11,24 +9,24 @@ use Rattle.ag_annex.specs.declared.clauses.Var.{Var}
 use Rattle.ag_annex.specs.declared.terms.Binary.TheVariants as binary
 use Rattle.ag_annex.specs.declared.terms.Term.{Term, Number, Truth, Named, Unary', Binary', Choice', Call', end_of-Term, more_of-Term}
 use Rattle.ag_annex.specs.declared.terms.Unary.TheVariants as unary
-use Rattle.ag_types.specs.declared.value.Factor.{Factor}
-use Rattle.ag_types.specs.declared.value.Value.{Value}
-use Rattle.ag_types.specs.declared.value.Value.TheVariants as value
-use Rattle.ag_types.specs.Constants.{is_varying, is_stream, is_carried, is_kept, is_within, AreKept, exact_value, value_in}
+use Rattle.ag_symbols.specs.Seen.{Names, sought, position, value_named, var_name, is_stream}
+use Rattle.ag_linear.specs.declared.value.Value.{Value}
+use Rattle.ag_linear.specs.declared.value.Value.TheVariants as value
+use Rattle.ag_linear.specs.Values.{is_within}
+use Rattle.ag_linear.specs.Rows.{Linear, constant_row, stream_row, plus, minus, keeps_row, carried_row}
+use Rattle.ag_linear.proofs.Held.{kept_is_carried_row}
+use Rattle.ag_types.specs.Constants.{is_varying, AreKept, exact_value, value_in, is_kept}
 use Rattle.ag_types.specs.Firsts.{either}
 use Rattle.ag_types.specs.NumberFaults.{passed_row, product, bad_divisor, compared_rows, operand_rows, parts_faults, formula_faults}
 use Rattle.ag_types.specs.Places.{first_place, first_broken}
-use Rattle.ag_types.specs.Rows.{Linear, constant_row, stream_row, plus, minus, is_factor, keeps_row, is_carried_row, carried_row, whole_at, whole_of, whole_stream, row_of_stream, row_of_hidden, row_of_value, both, scaled, row_of_product, row_of_pre, exact_row, row_in}
-use Rattle.ag_types.specs.Seen.{Names, sought, position, value_named, var_name}
+use Rattle.ag_types.specs.Rows.{whole_at, whole_of, whole_stream, row_of_stream, row_of_hidden, row_of_value, both, scaled, row_of_product, row_of_pre, exact_row, row_in}
 use Rattle.ag_types.specs.SumRows.{IsValueOf, HaveValues, KeepsLimits, IsSumRow}
 use Rattle.ag_types.specs.Sums.{is_sum, is_named_stream, sum_faults}
 use Rattle.ag_types.specs.Types.{type_in, type_of_var, mismatch, faults_in}
 use Rattle.ag_types.proofs.Breaking.{first_broken-append, unbroken}
 use Rattle.ag_types.proofs.ConstantsHaveValues.{constant_value}
-use Rattle.ag_types.proofs.FormedRows.{kept_parts}
 use Rattle.ag_types.proofs.TypedOperators.{not_false, front_nil, back_nil, unless_nil, operand_type, kept_is_carried}
 use Rattle.ag_types.proofs.Valuing.{kept_exact}
-use Rattle.ag_types.proofs.WorthOfFactors.{both_true}
 use Rattle.ag_types.proofs.WorthOfNames.{first_at}
 use Rattle.ag_types.proofs.WorthOfRows.{both_sums, not_both}
 
@@ -39,33 +37,9 @@ IsThere (Some row) = Unit {0}
 
 -- ---- limits
 
-small_constant : (n : ℕ) → not (nat_lt 281474976710656 n) ≡ true → nat_lt n 170141183460469231731687303715884105728 ≡ true
-small_constant n e = grind (arith, nat_tests)
-
-small_factor : (n : ℕ) → not (nat_lt 2147483648 n) ≡ true → nat_lt n 170141183460469231731687303715884105728 ≡ true
-small_factor n e = grind (arith, nat_tests)
-
-small_factors : (fs : List Factor) → list_all (λ f. is_factor f.factor) fs ≡ true → list_all (λ f. is_carried f.factor) fs ≡ true
-small_factors [] e = refl
-small_factors (f ∷ fs) e =
-    let parts = both_true (is_factor f.factor) (list_all (λ g. is_factor g.factor) fs) e in
-    rw (small_factor (unsigned_abs f.factor) parts.0) (small_factors fs parts.1)
-
-small_hidden : (zs : List ℤ) → list_all is_factor zs ≡ true → list_all is_carried zs ≡ true
-small_hidden [] e = refl
-small_hidden (z ∷ zs) e =
-    let parts = both_true (is_factor z) (list_all is_factor zs) e in
-    rw (small_factor (unsigned_abs z) parts.0) (small_hidden zs parts.1)
-
--- a row that keeps its limits has numbers of 128 bits
-kept_row_is_carried : (row : Linear) → keeps_row row ≡ true → is_carried_row row ≡ true
-kept_row_is_carried row e =
-    let kept = kept_parts row e in
-    rw (small_constant (unsigned_abs row.constant) kept.constant, small_factors row.factors kept.factors) (small_hidden row.hidden kept.hidden)
-
 there_carried : (o : Option Linear) (place : Place) → passed_row o place ≡ [] → IsThere o → IsThere (carried_row o)
 there_carried None place e h = h
-there_carried (Some row) place e h = rw (kept_row_is_carried row (not_false (keeps_row row) (unless_nil (not (keeps_row row)) _ e))) tt
+there_carried (Some row) place e h = rw (kept_is_carried_row row (not_false (keeps_row row) (unless_nil (not (keeps_row row)) _ e))) tt
 
 -- ---- operands
 
@@ -293,7 +267,7 @@ kept_row : (o : Option Linear) (row : Linear) (place : Place) → passed_row o p
 kept_row None row place e f = cc
 kept_row (Some exact) row place e f =
     let kept = not_false (keeps_row exact) (unless_nil (not (keeps_row exact)) _ e) in
-    let same : Some exact ≡ Some row = rw (kept_row_is_carried exact kept) at f in
+    let same : Some exact ≡ Some row = rw (kept_is_carried_row exact kept) at f in
     subst (λ (r : Linear). keeps_row r ≡ true) (some_is exact row same) kept
   where
     some_is : (a b : Linear) → Some a ≡ Some b → a ≡ b

@@ -9,10 +9,10 @@ use Rattle.ag_base.specs.declared.place.Rule.TheVariants.{Twice}
 use Rattle.ag_aadl.specs.declared.packages.Ident.{Ident}
 use Rattle.ag_aadl.specs.Words.{same}
 use Rattle.ag_annex.specs.declared.clauses.NodeDef.{NodeDef}
+use Rattle.ag_symbols.specs.Seen.{Names, node_vars}
 use Rattle.ag_types.specs.ClauseFaults.{is_declared_before, node_sees, node_twice, twice, twice_among, var_names}
 use Rattle.ag_types.specs.Firsts.{either}
 use Rattle.ag_types.specs.Places.{is_before, first_broken}
-use Rattle.ag_types.specs.Seen.{Names, node_vars}
 use Rattle.ag_types.proofs.Breaking.{first_broken-append}
 use Rattle.ag_types.proofs.NextNames.{twice_permuted}
 

@@ -10,11 +10,12 @@ use Rattle.ag_annex.specs.declared.terms.Binary.{Binary}
 use Rattle.ag_annex.specs.declared.terms.Binary.TheVariants as binary
 use Rattle.ag_annex.specs.declared.terms.Term.{Term}
 use Rattle.ag_annex.specs.declared.terms.Unary.TheVariants as unary
-use Rattle.ag_types.specs.declared.value.Value.{Value}
-use Rattle.ag_types.specs.declared.value.Value.TheVariants as value
-use Rattle.ag_types.specs.Constants.{carried, is_within, is_kept, value_of_unary, value_of_wholes, value_of_truths, value_of_binary, value_of_choice}
-use Rattle.ag_types.specs.NumberFaults.{passes_limit, passed_value, is_bad_divisor}
-use Rattle.ag_types.specs.Seen.{Names}
+use Rattle.ag_symbols.specs.Seen.{Names}
+use Rattle.ag_linear.specs.declared.value.Value.{Value}
+use Rattle.ag_linear.specs.declared.value.Value.TheVariants as value
+use Rattle.ag_linear.specs.Values.{carried, is_within, value_of_unary, value_of_wholes, value_of_truths, value_of_binary, value_of_choice, passes_limit}
+use Rattle.ag_types.specs.Constants.{is_kept}
+use Rattle.ag_types.specs.NumberFaults.{passed_value, is_bad_divisor}
 use Rattle.ag_types.specs.SumRows.{IsValueOf}
 use Rattle.ag_types.specs.Types.{type_in, type_of_binary, needed_first, needed_second, mismatch, faults_in}
 use Rattle.ag_types.proofs.Sound.{either}

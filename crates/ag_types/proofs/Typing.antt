@@ -15,10 +15,10 @@ use Rattle.ag_annex.specs.declared.terms.Unary.TheVariants as unary
 use Rattle.ag_annex.specs.declared.terms.Term.{Term, Row_of-Term, end_of-Term, more_of-Term, items-the_row-Term, items_hidden-the_row-Term-1}
 use Rattle.ag_annex.specs.declared.terms.Term.TheBlock.{hidden-the_row-Term-0, hidden-the_row-Term-1}
 use Rattle.ag_annex.specs.declared.terms.Term.TheViews as term
+use Rattle.ag_symbols.specs.Seen.{Names, node_of}
 use Rattle.ag_types.specs.Firsts.{either, type_of_unary, needed_alone, first_mismatch, mismatches_in, faults_among, inputs_of, first_of_call}
 use Rattle.ag_types.specs.Places.{first_place, first_broken, path_place, earlier}
-use Rattle.ag_types.specs.Seen.{Names, node_of}
-use Rattle.ag_types.specs.Types.{type_in, type_of_binary, type_of_call, faults_in, faults_in_all, argument_mismatches, arguments_in, call_faults, mismatch, arity, needed_first, needed_second}
+use Rattle.ag_types.specs.Types.{type_in, type_of_binary, faults_in, faults_in_all, argument_mismatches, arguments_in, call_faults, mismatch, arity, needed_first, needed_second}
 use Rattle.ag_types.proofs.Breaking.{either-none, either-assoc, first_broken-append}
 
 pub typed_unary : (names : Names) (op : Unary) (place : Place) (t : Term) → type_in names (term.Unary op place t) ≡ type_of_unary op (type_in names t)
@@ -81,9 +81,6 @@ faults_of_items names (more_of-Term t rest) = ap (λ (z : List Refusal). faults_
 pub arguments_of_items : {n : _} (row : Row_of-Term n) → arguments_in row ≡ length (items-the_row-Term n row)
 arguments_of_items end_of-Term = refl
 arguments_of_items (more_of-Term t rest) = ap suc (arguments_of_items rest)
-
-pub typed_call : (names : Names) (path : Path) (ts : List Term) → type_in names (term.Call path ts) ≡ type_of_call (node_of names path)
-typed_call names path ts = refl
 
 -- what a call breaks beside its arguments, by its node
 broken_as : (names : Names) (path : Path) (node : Option NodeDef) {n : _} (row : Row_of-Term n) →

@@ -4,7 +4,7 @@ use Rattle.std.proofs.Common.{◌≡◌, ℕ, ◌+◌, ◌-◌, ◌<◌, ◌≤�
 use Rattle.std.specs.Prelude.{slice_index_or}
 use Rattle.std.specs.List.{flat_map}
 use Rattle.std.proofs.Math.Seq.{set-append_seam}
-use Rattle.std.proofs.lemmas.List.{append-nil, length-set, length_push, drop_all, map-append}
+use Rattle.std.proofs.lemmas.List.{append-nil, length_push, drop_all, map-append}
 use Rattle.ag_aadl.specs.declared.packages.Path.{Path}
 use Rattle.ag_annex.specs.declared.terms.Binary.{Binary}
 use Rattle.ag_annex.specs.declared.terms.Unary.{Unary}
@@ -13,20 +13,10 @@ use Rattle.ag_annex.specs.declared.terms.Term.TheBlock.{hidden-the_row-Term-0, h
 use Rattle.ag_annex.specs.declared.terms.Term.TheViews as term
 use Rattle.ag_base.specs.declared.place.Place.{Place}
 use Rattle.ag_graph.specs.Edges.{with_edge}
-use Rattle.ag_types.specs.Seen.{Names, sought, position, node_name}
+use Rattle.ag_symbols.specs.Seen.{Names, sought, position, node_name}
 use Rattle.ag_types.specs.Uses.{Constant, of_constant, at_most_one, behind, used_in, used_in_all, used_by, with_edges}
 
 -- ---- edges
-
-length_edge : (g : List (List ℕ)) (t : ℕ) → length (with_edge g t) ≡ length g
-length_edge g t = length-set g (length g - 1) (slice_index_or g (length g - 1) [] ++ t ∷ [])
-
-pub length_edges : (g : List (List ℕ)) (ts : List ℕ) → length (with_edges g ts) ≡ length g
-length_edges g [] = refl
-length_edges g (t ∷ ts) = length_edges (with_edge g t) ts ∙ length_edge g t
-
-pub some_edges : (g : List (List ℕ)) (ts : List ℕ) → 0 < length g → 0 < length (with_edges g ts)
-some_edges g ts h = let e = length_edges g ts in omega arith
 
 pub edges-append : (g : List (List ℕ)) (ts us : List ℕ) → with_edges g (ts ++ us) ≡ with_edges (with_edges g ts) us
 edges-append g [] us = refl

@@ -8,17 +8,18 @@ use Rattle.ag_base.specs.declared.place.Place.{Place}
 use Rattle.ag_base.specs.declared.place.Refusal.{Refusal}
 use Rattle.ag_annex.specs.declared.terms.Binary.{Binary}
 use Rattle.ag_annex.specs.declared.terms.Term.{Term, Number, Truth, Named, Unary', Binary', Choice', Call', Row_of-Term, end_of-Term, more_of-Term}
-use Rattle.ag_types.specs.declared.value.Value.{Value}
-use Rattle.ag_types.specs.declared.value.Value.TheVariants as value
+use Rattle.ag_symbols.specs.Seen.{Names, sought, position, node_name, constant_position}
+use Rattle.ag_linear.specs.declared.value.Value.{Value}
+use Rattle.ag_linear.specs.declared.value.Value.TheVariants as value
+use Rattle.ag_linear.specs.Values.{is_within, carried, value_of_unary, value_of_binary, value_of_choice}
 use Rattle.ag_types.specs.ClauseFaults.{constant_faults}
-use Rattle.ag_types.specs.Constants.{AreKept, is_carried, is_kept, is_within, carried, constant_position, value_at, value_of_unary, value_of_binary, value_of_choice, exact_value, value_in}
+use Rattle.ag_types.specs.Constants.{AreKept, value_at, exact_value, value_in, is_kept}
 use Rattle.ag_types.specs.Firsts.{either}
 use Rattle.ag_types.specs.NumberFaults.{passed_value, bad_divisor, constant_faults_in, constant_faults_in_all}
 use Rattle.ag_types.specs.Places.{first_place, first_broken}
-use Rattle.ag_types.specs.Seen.{Names, sought, position, node_name}
 use Rattle.ag_types.specs.Uses.{Constant, at_most_one, behind, used_in, used_in_all, declared_value}
 use Rattle.ag_types.proofs.Breaking.{first_broken-append}
-use Rattle.std.proofs.lemmas.Bool.Decides.{nat_tests}
+use Rattle.ag_types.proofs.TypedOperators.{kept_is_carried}
 
 -- the same values at these positions
 abbrev pub AreSame : List (Option Value) → List (Option Value) → List ℕ → Type 0
@@ -144,14 +145,6 @@ kept_exact names vs (Choice' place l (more_of-Term test end_of-Term) m (more_of-
     (constant_faults_in names vs test ++ (constant_faults_in names vs chosen ++ constant_faults_in names vs other)) e
 kept_exact names vs (Call' path _ args) all e = refl
 
-within_carried : (z : ℤ) → is_within z ≡ true → is_carried z ≡ true
-within_carried z e = grind (arith, nat_tests)
-
-kept_carried : (v : Option Value) → is_kept v ≡ true → carried v ≡ v
-kept_carried None e = refl
-kept_carried (Some (value.Truth b)) e = refl
-kept_carried (Some (value.Whole z)) e = rw (within_carried z e) refl
-
 -- ---- by the first rule that an expression breaks
 
 first_none : (rs : List Refusal) → first_broken rs ≡ None → rs ≡ []
@@ -190,11 +183,11 @@ kept_value vs c all e = kept_exact c.names vs c.term all (nothing_right (constan
 pub sound_value : (vs : List (Option Value)) (c : Constant) → AreKept vs →
     either (first_broken (constant_faults c.names c.var c.term)) (first_broken (constant_faults_in c.names vs c.term)) ≡ None → value_in c.names vs c.term ≡ declared_value vs c
 sound_value vs c all e =
-    kept_carried (exact_value c.names vs c.term) (kept_value vs c all (joined vs c ∙ e))
+    kept_is_carried (exact_value c.names vs c.term) (kept_value vs c all (joined vs c ∙ e))
     ∙ sym (value_by_none (faults_by vs c) (exact_value c.names vs c.term) (first_none (faults_by vs c) (joined vs c ∙ e)))
 
 pub sound_kept : (vs : List (Option Value)) (c : Constant) → AreKept vs →
     either (first_broken (constant_faults c.names c.var c.term)) (first_broken (constant_faults_in c.names vs c.term)) ≡ None → is_kept (value_in c.names vs c.term) ≡ true
 sound_kept vs c all e =
     let k = kept_value vs c all (joined vs c ∙ e) in
-    ap is_kept (kept_carried (exact_value c.names vs c.term) k) ∙ k
+    ap is_kept (kept_is_carried (exact_value c.names vs c.term) k) ∙ k

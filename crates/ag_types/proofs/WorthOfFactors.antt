@@ -1,11 +1,12 @@
 -- Sums of factors times what their streams are worth: of two lists together, and of one by a number.
-use Rattle.std.proofs.Common.{◌≡◌, ℕ, ℤ, pos, ◌+ℤ◌, ◌*ℤ◌, ◌*◌, Bool, true, false, not, ◌&&◌, List, [], ◌∷◌, ◌++◌, map, refl, ap, sym, ◌∙◌, arith}
+use Rattle.std.proofs.Common.{◌≡◌, ℕ, ℤ, pos, ◌+ℤ◌, ◌*ℤ◌, ◌*◌, Bool, true, false, not, List, [], ◌∷◌, ◌++◌, map, refl, ap, sym, ◌∙◌, arith}
 use Rattle.std.specs.Prelude.{◌==◌, if◌then◌else◌}
 use Rattle.std.proofs.lemmas.Bool.Decides.{nat_tests}
 use Rattle.std.proofs.lemmas.Int.{ints}
 use borrow.Author.Differences.{up, down, sum_is_lem, product_is}
-use Rattle.ag_types.specs.declared.value.Factor.{Factor}
-use Rattle.ag_types.specs.Rows.{precedes, is_of_one, is_zero, joined, add_factor, plus_factors, times_factor}
+use Rattle.ag_linear.specs.declared.value.Factor.{Factor}
+use Rattle.ag_linear.specs.Rows.{precedes, is_of_one, is_zero, joined, add_factor, plus_factors, times_factor}
+use Rattle.ag_linear.proofs.Merges.{both_hold}
 
 -- ---- products
 
@@ -47,16 +48,12 @@ same_flag true false e = sym e
 same_flag false true e = e
 same_flag false false e = refl
 
-pub both_true : (a b : Bool) → (a && b) ≡ true → (a ≡ true) × (b ≡ true)
-both_true true b e = (refl, e)
-both_true false b e = cc
-
 pub equal_numbers : (a b : ℕ) → (a == b) ≡ true → a ≡ b
 equal_numbers a b e = grind (arith, nat_tests)
 
 same_weight : (w : ℕ → Bool → ℤ) (f g : Factor) → is_of_one f g ≡ true → w f.stream f.before ≡ w g.stream g.before
 same_weight w f g e =
-    let parts = both_true (f.stream == g.stream) (if f.before then g.before else not g.before) e in
+    let parts = both_hold (f.stream == g.stream) (if f.before then g.before else not g.before) e in
     ap (λ (n : ℕ). w n f.before) (equal_numbers f.stream g.stream parts.0) ∙ ap (w g.stream) (same_flag f.before g.before parts.1)
 
 -- factors of one stream as one factor

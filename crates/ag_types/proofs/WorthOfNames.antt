@@ -4,8 +4,8 @@ use Rattle.std.specs.Prelude.{Some, slice_get, if◌then◌else◌}
 use Rattle.std.proofs.lemmas.Slice.Eq.{bytes_eq-Decides}
 use Rattle.ag_aadl.specs.Words.{same}
 use Rattle.ag_annex.specs.declared.clauses.Var.{Var}
-use Rattle.ag_types.specs.Indexed.{folded}
-use Rattle.ag_types.specs.Seen.{position, position_from, value_named, var_name}
+use Rattle.ag_symbols.specs.Indexed.{folded}
+use Rattle.ag_symbols.specs.Seen.{position, position_from, value_named, var_name}
 
 -- the stream at a place has this name, and it is the first
 pub record IsFirstAt (name : List ℕ) (streams : List Var) (k : ℕ) : Type 0 where

@@ -9,16 +9,16 @@ use Rattle.ag_annex.specs.declared.terms.Binary.TheVariants as binary
 use Rattle.ag_annex.specs.declared.terms.Term.{Term, Number, Truth, Named, Unary', Binary', Choice', Call', end_of-Term, more_of-Term}
 use Rattle.ag_annex.specs.declared.terms.Unary.TheVariants as unary
 use Rattle.ag_aadl.specs.declared.packages.Path.{Path}
-use Rattle.ag_types.specs.declared.value.Value.{Value}
-use Rattle.ag_types.specs.declared.value.Value.TheVariants as value
-use Rattle.ag_types.specs.Constants.{is_stream}
+use Rattle.ag_symbols.specs.Seen.{Names, sought, position, value_named, var_name, is_stream}
+use Rattle.ag_linear.specs.declared.value.Value.{Value}
+use Rattle.ag_linear.specs.declared.value.Value.TheVariants as value
+use Rattle.ag_linear.specs.Rows.{Linear, stream_row}
+use Rattle.ag_linear.proofs.Merges.{both_hold}
 use Rattle.ag_types.specs.Meaning.{Reading, Run, stream_named, stream_of, worth_of_name, worth}
-use Rattle.ag_types.specs.Rows.{Linear, stream_row, whole_at, whole_of, whole_stream, row_of_stream, row_of_hidden, scaled, row_of_pre, row_in}
-use Rattle.ag_types.specs.Seen.{Names, sought, position, value_named, var_name}
+use Rattle.ag_types.specs.Rows.{whole_at, whole_of, whole_stream, row_of_stream, row_of_hidden, scaled, row_of_pre, row_in}
 use Rattle.ag_types.specs.Sums.{is_sum, is_named_stream}
 use Rattle.ag_types.specs.SumRows.{IsWholeStream}
 use Rattle.ag_types.specs.Types.{type_of_var}
-use Rattle.ag_types.proofs.WorthOfFactors.{both_true}
 use Rattle.ag_types.proofs.WorthOfNames.{IsFirstAt, same_folded, first_at}
 use Rattle.ag_types.proofs.WorthOfSums.{AreWholeStreams, weight, IsWorth, AgreesRow, moved, agrees-plus, agrees-minus, agrees-scaled, agrees-product, agrees-operand}
 use Rattle.ag_types.proofs.WorthOfValues.{operand_agrees}
@@ -153,7 +153,7 @@ not_both false e h = cc
 
 -- both sides of a varying sum are sums
 pub both_sums : (a b c : Bool) → a ≡ true → (not a || (b && c)) ≡ true → (b ≡ true) × (c ≡ true)
-both_sums a b c e h = both_true b c (of_sum a (b && c) e h)
+both_sums a b c e h = both_hold b c (of_sum a (b && c) e h)
 
 agrees-negated : (r : Reading) (run : Run) (t : Term) (at : ℕ) → AgreesRow r run at (row_in r.names r.values t) (worth r run t at) →
     AgreesRow r run at (scaled (Some (value.Whole (negsuc 0))) (row_in r.names r.values t)) (neg_ℤ (worth r run t at))

@@ -4,12 +4,13 @@ use Rattle.std.specs.Prelude.{negsuc, Option, Some, None, slice_get, ifâ—Œthenâ—
 use Rattle.std.proofs.lemmas.Int.{ints}
 use Rattle.ag_annex.specs.declared.clauses.Var.{Var}
 use Rattle.ag_annex.specs.declared.terms.Term.{Term}
-use Rattle.ag_types.specs.declared.value.Factor.{Factor}
-use Rattle.ag_types.specs.declared.value.Value.{Value}
-use Rattle.ag_types.specs.declared.value.Value.TheVariants as value
+use Rattle.ag_linear.specs.declared.value.Factor.{Factor}
+use Rattle.ag_linear.specs.declared.value.Value.{Value}
+use Rattle.ag_linear.specs.declared.value.Value.TheVariants as value
+use Rattle.ag_linear.specs.Rows.{Linear, constant_row, precedes, is_of_one, is_zero, joined, add_factor, plus_factors, plus, times_factor, times, minus, is_carried_row, carried_row}
 use Rattle.ag_types.specs.Constants.{is_varying, value_in}
 use Rattle.ag_types.specs.Meaning.{Reading, Run, stream_of, worth}
-use Rattle.ag_types.specs.Rows.{Linear, constant_row, precedes, is_of_one, is_zero, joined, add_factor, plus_factors, plus, times_factor, times, minus, is_carried_row, carried_row, row_of_value, both, scaled, row_of_product, exact_row, row_in}
+use Rattle.ag_types.specs.Rows.{row_of_value, both, scaled, row_of_product, exact_row, row_in}
 use Rattle.ag_types.specs.SumRows.{IsWholeStream}
 use Rattle.ag_types.proofs.WorthOfFactors.{weighed, weighed-plus_factors, weighed-times_factor, times_add, nothing}
 use Rattle.ag_types.proofs.WorthOfValues.{Agrees, operand_agrees}

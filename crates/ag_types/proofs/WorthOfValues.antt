@@ -6,11 +6,12 @@ use Rattle.ag_annex.specs.declared.terms.Binary.{Binary}
 use Rattle.ag_annex.specs.declared.terms.Binary.TheVariants as binary
 use Rattle.ag_annex.specs.declared.terms.Term.{Term, Number, Truth, Named, Unary', Binary', Choice', Call', end_of-Term, more_of-Term}
 use Rattle.ag_annex.specs.declared.terms.Unary.TheVariants as unary
-use Rattle.ag_types.specs.declared.value.Value.{Value}
-use Rattle.ag_types.specs.declared.value.Value.TheVariants as value
-use Rattle.ag_types.specs.Constants.{is_carried, carried, is_stream, constant_position, value_at, value_of_unary, value_of_wholes, value_of_truths, value_of_binary, value_of_choice, same_truth, exact_value, value_in}
+use Rattle.ag_symbols.specs.Seen.{sought, position, var_name, is_stream, constant_position}
+use Rattle.ag_linear.specs.declared.value.Value.{Value}
+use Rattle.ag_linear.specs.declared.value.Value.TheVariants as value
+use Rattle.ag_linear.specs.Values.{is_carried, carried, value_of_unary, value_of_wholes, value_of_truths, value_of_binary, value_of_choice, same_truth}
+use Rattle.ag_types.specs.Constants.{value_at, exact_value, value_in}
 use Rattle.ag_types.specs.Meaning.{Reading, Run, stream_of, truth, is_true, number, equal, worth_of_name, worth_of_binary, worth}
-use Rattle.ag_types.specs.Seen.{sought, position, var_name}
 
 -- if there is a value, it is this number
 abbrev pub Agrees : Option Value → ℤ → Type 0
@@ -203,7 +204,3 @@ exact_agrees r run (Call' path _ args) at = tt
 
 pub operand_agrees : (r : Reading) (run : Run) (t : Term) (at : ℕ) → Agrees (value_in r.names r.values t) (worth r run t at)
 operand_agrees r run t at = carried_agrees (exact_value r.names r.values t) (worth r run t at) (exact_agrees r run t at)
-
--- a constant expression is worth its value
-pub value_is_worth : (r : Reading) (run : Run) (t : Term) (v : Value) (at : ℕ) → value_in r.names r.values t ≡ Some v → number (Some v) ≡ worth r run t at
-value_is_worth r run t v at e = subst (λ (o : Option Value). Agrees o (worth r run t at)) e (operand_agrees r run t at)

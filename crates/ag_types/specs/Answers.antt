@@ -1,11 +1,11 @@
 -- Which rule on the clauses of a scope is answered: of all that they break the first.
 use Rattle.std.specs.Prelude.{◌≡◌, ◌⊎◌, false, ◌&&◌, ◌||◌, not, nat_lt, Bool, Option, Some, None, List, Contains}
 use Rattle.ag_base.specs.declared.place.Refusal.{Refusal}
-use Rattle.ag_types.specs.declared.value.Value.{Value}
+use Rattle.ag_symbols.specs.Seen.{Seen}
+use Rattle.ag_linear.specs.declared.value.Value.{Value}
 use Rattle.ag_types.specs.ClauseFaults.{faults_of}
 use Rattle.ag_types.specs.NumberFaults.{number_faults}
 use Rattle.ag_types.specs.Places.{is_before, order_of}
-use Rattle.ag_types.specs.Seen.{Seen}
 use Rattle.ag_types.specs.Uses.{AreValues, IsCircular}
 
 -- the clauses break a rule at a place: one on names and types, one on circles, or one on numbers

@@ -15,9 +15,9 @@ use Rattle.ag_annex.specs.declared.clauses.NodeDef.{NodeDef}
 use Rattle.ag_annex.specs.declared.clauses.Ty.TheVariants.{Bool as Boolean}
 use Rattle.ag_annex.specs.declared.clauses.Var.{Var}
 use Rattle.ag_annex.specs.declared.terms.Term.{Term, Call', Row_of-Term}
+use Rattle.ag_symbols.specs.Seen.{Seen, Names, clauses_seen, node_vars, names_of_node, over_sites, value_named, node_of, targets}
 use Rattle.ag_types.specs.Places.{is_before, path_place, first_place}
 use Rattle.ag_types.specs.Constants.{is_varying}
-use Rattle.ag_types.specs.Seen.{Seen, Names, own_ports, clauses_seen, eq_streams_in, node_vars, names_of_node, over_sites, value_named, node_of}
 use Rattle.ag_types.specs.Types.{type_in, faults_in, mismatch, arity, unknown, argument_mismatches, arguments_in, faults_in_all}
 
 -- ---- names are declared once
@@ -53,10 +53,6 @@ var_names vs = map (λ v. v.name) vs
 abbrev pub valued_streams_in : Clause → List Var
 valued_streams_in (clause.Eq names (Some t)) = names
 valued_streams_in _ = []
-
--- the names that an `assign` may have: own ports, and the streams that `eq` declares
-abbrev pub targets : Seen → List Var
-targets s = own_ports s ++ flat_map eq_streams_in (clauses_seen s)
 
 -- the value of an equation has the type of what it is set for
 abbrev pub value_mismatch : Names → Option Var → Term → List Refusal

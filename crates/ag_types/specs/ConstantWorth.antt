@@ -1,8 +1,8 @@
 -- What the constants of a scope are worth.
 use Rattle.std.specs.Prelude.{◌≡◌, ℕ, List, Option, Some, None, slice_get, slice_index_or}
-use Rattle.ag_types.specs.declared.value.Value.{Value}
+use Rattle.ag_symbols.specs.Seen.{Seen}
+use Rattle.ag_linear.specs.declared.value.Value.{Value}
 use Rattle.ag_types.specs.Meaning.{Reading, Run, number, worth}
-use Rattle.ag_types.specs.Seen.{Seen}
 use Rattle.ag_types.specs.SumRows.{IsValueOf}
 use Rattle.ag_types.specs.Uses.{Constant, constants_of, AreValues}
 

@@ -6,7 +6,7 @@ use Rattle.std.specs.declared.cmp.Ordering.{Ordering}
 use Rattle.ag_base.specs.declared.place.Place.{Place}
 use Rattle.ag_aadl.specs.declared.packages.Ident.{Ident}
 use Rattle.ag_aadl.specs.Words.{same}
-use Rattle.ag_types.specs.Indexed.{compare_names}
+use Rattle.ag_symbols.specs.Indexed.{compare_names}
 use Rattle.ag_types.specs.Places.{is_before}
 
 -- the name stands at an earlier place

@@ -9,8 +9,8 @@ use Rattle.ag_annex.specs.declared.clauses.Var.{Var}
 use Rattle.ag_annex.specs.declared.terms.Term.{Term}
 use Rattle.ag_annex.specs.declared.terms.Unary.{Unary}
 use Rattle.ag_annex.specs.declared.terms.Unary.TheVariants as unary
+use Rattle.ag_symbols.specs.Seen.{Names}
 use Rattle.ag_types.specs.Places.{first_place, first_refusal, first_broken}
-use Rattle.ag_types.specs.Seen.{Names}
 use Rattle.ag_types.specs.Types.{type_in, faults_in, mismatch, arity, unknown}
 
 -- of the first refusals of two parts the one that is answered

@@ -1,4 +1,4 @@
--- Which names an annex sees, which types and values expressions have, and what clauses break.
+-- Which types, values and rows expressions have, and what clauses break.
 pub mod Answers
 pub mod ClauseFaults
 pub mod ClauseFirsts
@@ -6,15 +6,12 @@ pub mod Constants
 pub mod ConstantWorth
 pub mod Earliest
 pub mod Firsts
-pub mod Indexed
 pub mod Meaning
 pub mod NumberFaults
 pub mod Numbered
 pub mod Numbers
 pub mod Places
-pub mod RowOrder
 pub mod Rows
-pub mod Seen
 pub mod SumRows
 pub mod Sums
 pub mod Types

@@ -9,12 +9,12 @@ use Rattle.ag_annex.specs.declared.terms.Binary.{Binary}
 use Rattle.ag_annex.specs.declared.terms.Binary.TheVariants as binary
 use Rattle.ag_annex.specs.declared.terms.Term.{Term, Number, Truth, Named, Unary', Binary', Choice', Call', end_of-Term, more_of-Term}
 use Rattle.ag_annex.specs.declared.terms.Unary.TheVariants as unary
-use Rattle.ag_types.specs.declared.value.Value.{Value}
-use Rattle.ag_types.specs.declared.value.Value.TheVariants as value
-use Rattle.ag_types.specs.Constants.{is_stream, constant_position, value_at}
-use Rattle.ag_types.specs.Indexed.{folded}
+use Rattle.ag_symbols.specs.Indexed.{folded}
+use Rattle.ag_symbols.specs.Seen.{Names, sought, node_of, is_stream, constant_position}
+use Rattle.ag_linear.specs.declared.value.Value.{Value}
+use Rattle.ag_linear.specs.declared.value.Value.TheVariants as value
+use Rattle.ag_types.specs.Constants.{value_at}
 use Rattle.ag_types.specs.Places.{path_place}
-use Rattle.ag_types.specs.Seen.{Names, sought, node_of}
 
 -- the name of a stream: of which component, by the names of subcomponents from the outermost on; in the copy of which call, by the places of calls
 -- from the outermost on; and its own name. Names are in small letters

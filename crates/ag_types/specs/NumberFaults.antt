@@ -13,12 +13,14 @@ use Rattle.ag_annex.specs.declared.terms.Binary.TheVariants as binary
 use Rattle.ag_annex.specs.declared.terms.Term.{Term, Number, Truth, Named, Unary', Binary', Choice', Call', Row_of-Term, end_of-Term, more_of-Term}
 use Rattle.ag_annex.specs.declared.terms.Unary.{Unary}
 use Rattle.ag_annex.specs.declared.terms.Unary.TheVariants as unary
-use Rattle.ag_types.specs.declared.value.Value.{Value}
-use Rattle.ag_types.specs.declared.value.Value.TheVariants as value
-use Rattle.ag_types.specs.Constants.{is_varying, is_within, exact_value, value_in}
+use Rattle.ag_symbols.specs.Seen.{Seen, Names, names_of_node, over_sites}
+use Rattle.ag_linear.specs.declared.value.Value.{Value}
+use Rattle.ag_linear.specs.declared.value.Value.TheVariants as value
+use Rattle.ag_linear.specs.Values.{passes_limit}
+use Rattle.ag_linear.specs.Rows.{Linear, passes_limits, compared}
+use Rattle.ag_types.specs.Constants.{is_varying, exact_value, value_in}
 use Rattle.ag_types.specs.Places.{first_place}
-use Rattle.ag_types.specs.Rows.{Linear, constant_row, plus, minus, keeps_row, exact_row, row_in}
-use Rattle.ag_types.specs.Seen.{Seen, Names, names_of_node, over_sites}
+use Rattle.ag_types.specs.Rows.{exact_row, row_in}
 use Rattle.ag_types.specs.Types.{type_in}
 
 -- ---- constants
@@ -26,11 +28,6 @@ use Rattle.ag_types.specs.Types.{type_in}
 -- the rule of limits is broken at a place
 abbrev pub coefficient : Bool → Place → List Refusal
 coefficient passes place = if passes then record { place = place; rule = Coefficient } ∷ [] else []
-
--- a value passes the limit of constants
-abbrev pub passes_limit : Option Value → Bool
-passes_limit (Some (value.Whole z)) = not (is_within z)
-passes_limit _ = false
 
 abbrev pub passed_value : Option Value → Place → List Refusal
 passed_value v place = coefficient (passes_limit v) place
@@ -74,11 +71,6 @@ abbrev mutual
 
 -- ---- rows
 
--- a row passes its limits
-abbrev pub passes_limits : Option Linear → Bool
-passes_limits None = false
-passes_limits (Some r) = not (keeps_row r)
-
 abbrev pub passed_row : Option Linear → Place → List Refusal
 passed_row r place = coefficient (passes_limits r) place
 
@@ -89,16 +81,6 @@ own_row names values t = if is_varying names t then passed_row (exact_row names 
 -- an expression that has an equation's row of its own, so that a constant too keeps a row's limits
 abbrev pub equation_row : Names → List (Option Value) → Term → List Refusal
 equation_row names values t = passed_row (row_in names values t) (first_place t)
-
--- a comparison says that a row is at most 0; of `=` and `<>` both ways
-abbrev pub compared : Binary → Linear → Linear → Option Linear
-compared binary.Less a b = Some (plus (minus a b) (constant_row (pos 1)))
-compared binary.AtMost a b = Some (minus a b)
-compared binary.More a b = Some (plus (minus b a) (constant_row (pos 1)))
-compared binary.AtLeast a b = Some (minus b a)
-compared binary.Same a b = Some (minus a b)
-compared binary.Differs a b = Some (minus a b)
-compared _ a b = None
 
 abbrev pub compared_rows : Binary → Option Linear → Option Linear → Option Linear
 compared_rows op (Some a) (Some b) = compared op a b

@@ -12,18 +12,20 @@ use Rattle.ag_annex.specs.declared.terms.Term.{Term, Named}
 use Rattle.ag_annex.specs.declared.terms.Unary.{Unary}
 use Rattle.ag_annex.specs.declared.terms.Unary.TheVariants as unary
 use Rattle.ag_aadl.specs.declared.packages.Path.{Path}
+use Rattle.ag_symbols.specs.Seen.{Names, sought, value_of, is_stream, constant_position}
+use Rattle.ag_linear.specs.declared.rows.Kept.{Kept}
+use Rattle.ag_linear.specs.declared.value.Value.{Value}
+use Rattle.ag_linear.specs.declared.value.Value.TheVariants as value
+use Rattle.ag_linear.specs.Values.{carried, value_of_unary, value_of_binary, value_of_choice}
+use Rattle.ag_linear.specs.Rows.{passes_limits, Linear, carried_row, plus, minus, hidden_row, stream_row}
 use Rattle.ag_types.specs.declared.numbered.Faults.{Faults}
 use Rattle.ag_types.specs.declared.numbered.Head.{Head}
 use Rattle.ag_types.specs.declared.numbered.Numbered.{Numbered}
-use Rattle.ag_types.specs.declared.rows.Kept.{Kept}
-use Rattle.ag_types.specs.declared.value.Value.{Value}
-use Rattle.ag_types.specs.declared.value.Value.TheVariants as value
-use Rattle.ag_types.specs.Constants.{is_varying, is_stream, carried, constant_position, value_at, value_of_unary, value_of_binary, value_of_choice, value_in}
+use Rattle.ag_types.specs.Constants.{is_varying, value_at, value_in}
 use Rattle.ag_types.specs.Firsts.{either, type_of_unary}
-use Rattle.ag_types.specs.NumberFaults.{coefficient, passed_value, passes_limits, passed_row, compared_rows, is_bad_divisor, divides, equation_row, constant_faults_in, formula_faults}
+use Rattle.ag_types.specs.NumberFaults.{coefficient, passed_value, passed_row, compared_rows, is_bad_divisor, divides, equation_row, constant_faults_in, formula_faults}
 use Rattle.ag_types.specs.Places.{first_place, first_broken, path_place, earlier}
-use Rattle.ag_types.specs.Rows.{Linear, carried_row, plus, minus, both, scaled, hidden_row, stream_row, row_of_hidden, row_of_value, row_of_stream, whole_stream, row_in}
-use Rattle.ag_types.specs.Seen.{Names, sought, value_of}
+use Rattle.ag_types.specs.Rows.{both, scaled, row_of_hidden, row_of_value, row_of_stream, whole_stream, row_in}
 use Rattle.ag_types.specs.Types.{type_in, type_of_var, type_of_call, type_of_binary}
 
 -- all that is known of an expression

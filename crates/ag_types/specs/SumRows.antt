@@ -7,12 +7,14 @@ use Rattle.ag_annex.specs.declared.clauses.Ty.{Ty}
 use Rattle.ag_annex.specs.declared.clauses.Ty.TheVariants.{Int, Bool as Boolean}
 use Rattle.ag_annex.specs.declared.clauses.Var.{Var}
 use Rattle.ag_annex.specs.declared.terms.Term.{Term}
-use Rattle.ag_types.specs.declared.value.Factor.{Factor}
-use Rattle.ag_types.specs.declared.value.Value.{Value}
-use Rattle.ag_types.specs.declared.value.Value.TheVariants as value
-use Rattle.ag_types.specs.Constants.{is_varying, is_within}
-use Rattle.ag_types.specs.Rows.{Linear, is_factor, keeps_row, row_in}
-use Rattle.ag_types.specs.Seen.{Names}
+use Rattle.ag_symbols.specs.Seen.{Names}
+use Rattle.ag_linear.specs.declared.value.Factor.{Factor}
+use Rattle.ag_linear.specs.declared.value.Value.{Value}
+use Rattle.ag_linear.specs.declared.value.Value.TheVariants as value
+use Rattle.ag_linear.specs.Values.{is_within}
+use Rattle.ag_linear.specs.Rows.{Linear, is_factor, keeps_row}
+use Rattle.ag_types.specs.Constants.{is_varying}
+use Rattle.ag_types.specs.Rows.{row_in}
 use Rattle.ag_types.specs.Sums.{is_whole, sum_faults}
 
 -- an integer stream stands there

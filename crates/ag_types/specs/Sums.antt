@@ -13,12 +13,12 @@ use Rattle.ag_annex.specs.declared.terms.Binary.{Binary}
 use Rattle.ag_annex.specs.declared.terms.Binary.TheVariants as binary
 use Rattle.ag_annex.specs.declared.terms.Term.{Term, Number, Truth, Named, Unary', Binary', Choice', Call', end_of-Term, more_of-Term}
 use Rattle.ag_annex.specs.declared.terms.Unary.TheVariants as unary
-use Rattle.ag_types.specs.declared.value.Value.{Value}
-use Rattle.ag_types.specs.Constants.{is_varying, is_stream}
+use Rattle.ag_symbols.specs.Seen.{Seen, Names, names_seen, sought, is_stream}
+use Rattle.ag_linear.specs.declared.value.Value.{Value}
+use Rattle.ag_types.specs.Constants.{is_varying}
 use Rattle.ag_types.specs.Meaning.{Reading, Run, stream_of, is_true, worth}
 use Rattle.ag_types.specs.NumberFaults.{formula_faults}
 use Rattle.ag_types.specs.Places.{first_place, first_broken}
-use Rattle.ag_types.specs.Seen.{Seen, Names, names_seen, sought}
 use Rattle.ag_types.specs.Types.{type_in, faults_in, mismatch}
 use Rattle.ag_types.specs.Uses.{AreValues}
 

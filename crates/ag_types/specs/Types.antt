@@ -12,8 +12,8 @@ use Rattle.ag_annex.specs.declared.terms.Binary.{Binary}
 use Rattle.ag_annex.specs.declared.terms.Binary.TheVariants.{Arrow, Implies, Iff, Or, And, Same, Differs, Plus, Minus, Times, Div, Mod}
 use Rattle.ag_annex.specs.declared.terms.Term.{Term, Number, Truth, Named, Unary', Binary', Choice', Call', Row_of-Term, end_of-Term, more_of-Term}
 use Rattle.ag_annex.specs.declared.terms.Unary.TheVariants as unary
+use Rattle.ag_symbols.specs.Seen.{Names, value_of, node_of}
 use Rattle.ag_types.specs.Places.{path_place, first_place, first_broken}
-use Rattle.ag_types.specs.Seen.{Names, value_of, node_of}
 
 -- ---- the type that an expression has; a name that isn't there and a call of several outputs have none
 

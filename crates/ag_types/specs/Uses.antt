@@ -11,11 +11,11 @@ use Rattle.ag_annex.specs.declared.clauses.Var.{Var}
 use Rattle.ag_annex.specs.declared.terms.Term.{Term, Number, Truth, Named, Unary', Binary', Choice', Call', Row_of-Term, end_of-Term, more_of-Term}
 use Rattle.ag_graph.specs.Circles.{IsOnCircle}
 use Rattle.ag_graph.specs.Edges.{with_edge}
-use Rattle.ag_types.specs.declared.value.Value.{Value}
-use Rattle.ag_types.specs.Constants.{constant_position, exact_value}
+use Rattle.ag_symbols.specs.Seen.{Seen, Names, names_of_node, over_sites, sought, position, node_name, constant_position}
+use Rattle.ag_linear.specs.declared.value.Value.{Value}
+use Rattle.ag_types.specs.Constants.{exact_value}
 use Rattle.ag_types.specs.ClauseFaults.{constant_faults}
 use Rattle.ag_types.specs.NumberFaults.{constant_faults_in}
-use Rattle.ag_types.specs.Seen.{Seen, Names, names_of_node, over_sites, sought, position, node_name}
 
 -- a constant with what its expression sees
 pub record Constant : Type 0 where

@@ -2,8 +2,8 @@
 use Rattle.std.specs.Prelude.{Option, Some, None}
 use Rattle.ag_annex.specs.declared.clauses.Ty.{Ty}
 use Rattle.ag_annex.specs.declared.clauses.Ty.TheVariants.{Int, Bool as Boolean}
-use Rattle.ag_types.specs.declared.value.Value.{Value}
-use Rattle.ag_types.specs.declared.value.Value.TheVariants as value
+use Rattle.ag_linear.specs.declared.value.Value.{Value}
+use Rattle.ag_linear.specs.declared.value.Value.TheVariants as value
 use Rattle.ag_types.specs.SumRows.{IsValueOf}
 
 pub value_of-prop : (ty : Ty) (o : Option Value) → IsProp (IsValueOf ty o)

@@ -9,11 +9,10 @@ ghost use Rattle.ag_types.specs.Places.{first_place, first_broken, path_place};
 ghost use Rattle.ag_types.specs.Types.{faults_in, type_of_var};
 
 use crate::places::{either, path_place};
-use crate::sight::Sight;
-use crate::table::Vars;
 use crate::types::{arguments, arity, behind_first, inputs_of, mismatch, typing, unknown};
 use ag_annex::{Binary, Equal, Labelled, NodeDef, Term, Ty, Unary, Var};
 use ag_base::{Place, Refusal, Rule};
+use ag_symbols::{Sight, Vars};
 
 /// An assumption, a guarantee or a lemma is a truth.
 pub fn claim(sight: &Sight<'_>, labelled: &Labelled) -> Option<Refusal>

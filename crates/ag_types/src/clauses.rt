@@ -9,11 +9,10 @@ use crate::claims::{claim, constant, equal, streams};
 use crate::earliest::Earliest;
 use crate::equations::node;
 use crate::places::either;
-use crate::sites::Site;
-use crate::table::Vars;
 use crate::twice::names_seen;
 use ag_annex::Clause;
 use ag_base::{OutOfMemory, Refusal};
+use ag_symbols::{Site, Vars};
 use std::alloc::Global;
 
 /// The first rule that some clauses of a site break.

@@ -1,17 +1,17 @@
 //! The values of constants.
 ghost use Rattle.std.specs.Prelude.{◌≡◌, true, IfOk};
 ghost use Rattle.ag_graph.specs.Circles.{AreCircles};
+ghost use Rattle.ag_symbols.specs.Seen.{Seen};
 ghost use Rattle.ag_types.specs.Constants.{AreKept, is_kept};
-ghost use Rattle.ag_types.specs.Seen.{Seen};
 ghost use Rattle.ag_types.specs.Uses.{constants_of, uses_of, declared_value, AreValues};
 
 use crate::claims::constant;
 use crate::numbers::numbered;
 use crate::places::either;
 use crate::uses::Constant;
-use crate::value::Value;
 use ag_base::OutOfMemory;
 use ag_graph::Circles;
+use ag_linear::Value;
 use std::alloc::Global;
 
 /// The values of a scope's constants, each evaluated once, behind those that it uses.

@@ -7,10 +7,10 @@ ghost use Rattle.ag_base.specs.declared.place.Place.{Place};
 ghost use Rattle.ag_types.specs.ClauseFaults.{is_declared_before};
 ghost use Rattle.ag_types.specs.Earliest.{compare_idents, compare_places, is_in_front, stands_before, IsNext};
 
-use crate::index::compare;
 use crate::places::is_before;
 use ag_aadl::packages::Ident;
 use ag_base::{OutOfMemory, Place};
+use ag_symbols::compare_names;
 use std::alloc::Global;
 use std::cmp::Ordering;
 use std::marker::Model;
@@ -50,10 +50,10 @@ impl<'a> Earliest<'a> {
         ensures { (place : Place) → stands_before (option_copied result) place ≡ is_declared_before self.now (record { text = name.now; place = place }) }
     {
         let names = self.names.as_slice();
-        let at = names.partition_point(|n| compare(n.text.as_bytes(), name).is_lt());
+        let at = names.partition_point(|n| compare_names(n.text.as_bytes(), name).is_lt());
         match names.get(at) {
             Some(first) => {
-                if compare(first.text.as_bytes(), name).is_eq() {
+                if compare_names(first.text.as_bytes(), name).is_eq() {
                     Some(*first)
                 } else {
                     None
@@ -81,7 +81,7 @@ impl<'a> Earliest<'a> {
         let at = names.partition_point(|n| !compare_idents(name, n).is_lt());
         match names.get(at) {
             Some(next) => {
-                if compare(name.text.as_bytes(), next.text.as_bytes()).is_eq() {
+                if compare_names(name.text.as_bytes(), next.text.as_bytes()).is_eq() {
                     Some(*next)
                 } else {
                     None
@@ -113,7 +113,7 @@ fn sort(names: &mut Vec<&Ident>) -> Result<(), OutOfMemory>
 fn compare_idents(a: &Ident, b: &Ident) -> Ordering
     ensures { result ≡ compare_idents a.now b.now }
 {
-    compare(a.text.as_bytes(), b.text.as_bytes()).then(compare_places(a.place, b.place))
+    compare_names(a.text.as_bytes(), b.text.as_bytes()).then(compare_places(a.place, b.place))
 }
 
 fn compare_places(p: Place, q: Place) -> Ordering

@@ -6,21 +6,18 @@ ghost use Rattle.std.specs.List.Sorted.{IsSortedBy, IsPermutation};
 ghost use Rattle.std.specs.Coded.{codes};
 ghost use Rattle.std.proofs.Props.{props};
 ghost use Rattle.ag_aadl.specs.Words.{same};
+ghost use Rattle.ag_symbols.specs.Indexed.{is_below, first_by};
 ghost use Rattle.ag_types.specs.ClauseFaults.{node_faults, node_sees, node_equation, unset, equation_names, equal_faults};
-ghost use Rattle.ag_types.specs.Indexed.{is_below, first_by};
 ghost use Rattle.ag_types.specs.Places.{first_broken};
 
 use crate::claims::equal;
 use crate::earliest::Earliest;
-use crate::index::{Slot, find_name, sort};
 use crate::places::either;
-use crate::sight::Sight;
-use crate::sites::{Site, own_of, results_of};
-use crate::table::Vars;
 use crate::twice::{first_equation_twice, node_twice_among};
 use crate::types::unknown;
 use ag_annex::{Equal, NodeDef, Var};
 use ag_base::{OutOfMemory, Refusal};
+use ag_symbols::{Sight, Site, Slot, Vars, find_name, node_results, node_streams, sort_names};
 use std::alloc::Global;
 
 /// The first rule that a node of the site breaks, with the names that the site's nodes see beside their own.
@@ -44,8 +41,8 @@ pub fn node(
 fn equations(alloc: Global, site: &Site<'_>, node: &NodeDef) -> Result<Option<Refusal>, OutOfMemory>
     ensures { IfOk result (λ r. r ≡ first_broken (flat_map (node_equation site.now node.now) node.now.equations)) }
 {
-    let own = own_of(alloc, node)?;
-    let results = results_of(alloc, node)?;
+    let own = node_streams(alloc, node)?;
+    let results = node_results(alloc, node)?;
     let sight = site.sight_of(&own);
     Ok(equals(&sight, &results, node.equations.as_slice()))
 }
@@ -84,7 +81,7 @@ fn names_set(alloc: Global, equations: &[Equal]) -> Result<SetNames<'_>, OutOfMe
 {
     let mut slots = Vec::new(alloc);
     push_names(&mut slots, equations)?;
-    sort(&mut slots)?;
+    sort_names(&mut slots)?;
     Ok(SetNames { equations, slots })
 }
 

@@ -1,18 +1,17 @@
 //! The first rule on names and types that the clauses of a scope break, but for circles and numbers.
 ghost use Rattle.std.specs.Prelude.{◌≡◌, ◌++◌, IfOk};
 ghost use Rattle.std.specs.List.{flat_map};
+ghost use Rattle.ag_symbols.specs.Seen.{library_names, frame_names, names_seen};
 ghost use Rattle.ag_types.specs.ClauseFaults.{faults_of, clause_faults};
 ghost use Rattle.ag_types.specs.Places.{first_broken};
-ghost use Rattle.ag_types.specs.Seen.{library_names, frame_names, names_seen};
 
 use crate::clauses::clauses;
 use crate::places::either;
-use crate::sites::{Sites, targets_of};
 use crate::sources::first_second_source;
-use crate::table::Vars;
 use crate::twice::first_declared_twice;
 use ag_annex::{Clause, Var};
 use ag_base::{OutOfMemory, Refusal};
+use ag_symbols::{Sites, Vars, assign_targets};
 use std::alloc::Global;
 
 /// The first rule that these clauses break, which have these sites.
@@ -30,7 +29,7 @@ pub fn first_fault(
     ensures { IfOk result (λ r. r ≡ first_broken (faults_of (record { library = library.now; frame = frame.now; body = body.now; ports = ports.now }))) }
 {
     let of_names = first_declared_twice(alloc, library, frame, body, ports)?;
-    let targets = targets_of(alloc, library, frame, body, ports)?;
+    let targets = assign_targets(alloc, library, frame, body, ports)?;
     let of_clauses = first_of_sites(alloc, &targets, sites, library, frame, body)?;
     let of_sources = first_second_source(alloc, library, frame, body, ports)?;
     Ok(either(of_names, either(of_clauses, of_sources)))

@@ -1,13 +1,13 @@
 //! Names that clauses and nodes declare or set, in their order.
 ghost use Rattle.std.specs.Prelude.{◌≡◌, ◌++◌, map, OnOk, IfOk};
 ghost use Rattle.std.specs.List.{flat_map};
+ghost use Rattle.ag_symbols.specs.Seen.{node_vars};
 ghost use Rattle.ag_types.specs.ClauseFaults.{declared, declared_in, assign_in, node_sees, var_names};
-ghost use Rattle.ag_types.specs.Seen.{node_vars};
 
-use crate::sight::Sight;
 use ag_aadl::packages::Ident;
 use ag_annex::{Clause, Equal, NodeDef, Var};
 use ag_base::OutOfMemory;
+use ag_symbols::Sight;
 use std::alloc::Global;
 
 /// All names of a scope: those of ports, and those that clauses declare.

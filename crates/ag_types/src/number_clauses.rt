@@ -1,18 +1,17 @@
 //! The rules on numbers over all clauses of a scope.
 ghost use Rattle.std.specs.Prelude.{◌≡◌, IfOk};
 ghost use Rattle.std.specs.List.{flat_map};
+ghost use Rattle.ag_symbols.specs.Seen.{Seen, library_names, frame_names, names_seen, names_of_node};
 ghost use Rattle.ag_types.specs.Constants.{AreKept};
 ghost use Rattle.ag_types.specs.NumberFaults.{free_or_side, node_numbers, clause_numbers, number_faults};
 ghost use Rattle.ag_types.specs.Places.{first_broken};
-ghost use Rattle.ag_types.specs.Seen.{Seen, library_names, frame_names, names_seen, names_of_node};
 
 use crate::numbers::{numbered, side};
 use crate::places::either;
-use crate::sight::Sight;
-use crate::sites::{Site, Sites, own_of};
-use crate::value::Value;
 use ag_annex::{Clause, Equal, NodeDef, Term, Var};
 use ag_base::{OutOfMemory, Refusal};
+use ag_linear::Value;
+use ag_symbols::{Sight, Site, Sites, node_streams};
 use std::alloc::Global;
 
 /// The first rule on numbers that the clauses of a scope break, where its constants have these values.
@@ -99,7 +98,7 @@ fn of_node(
     requires { AreKept values.now }
     ensures { IfOk result (λ r. r ≡ first_broken (flat_map (node_numbers (names_of_node site.now node.now) values.now) node.now.equations)) }
 {
-    let own = own_of(alloc, node)?;
+    let own = node_streams(alloc, node)?;
     let sight = site.sight_of(&own);
     of_equations(alloc, &sight, values, node.equations.as_slice())
 }

@@ -1,15 +1,14 @@
 //! The rules on numbers that an operator breaks with its operands.
 ghost use Rattle.std.specs.Prelude.{◌≡◌};
-ghost use Rattle.ag_types.specs.NumberFaults.{divides};
+ghost use Rattle.ag_types.specs.NumberFaults.{divides, is_bad_divisor};
 ghost use Rattle.ag_types.specs.Numbered.{pre_of, product_of, divisor_of, compared_of, operands_of};
 ghost use Rattle.ag_types.specs.Places.{first_broken};
 
 use crate::numbered::{Numbered, coefficient, own_equation};
 use crate::places::either;
-use crate::rows::compares;
-use crate::value::is_bad_divisor;
 use ag_annex::{Binary, Unary};
 use ag_base::{Place, Refusal, Rule};
+use ag_linear::{Value, comparison_passes};
 
 /// The operand of a `pre` has an equation of its own.
 pub fn pre_of(op: Unary, arg: &Numbered) -> Option<Refusal>
@@ -63,7 +62,7 @@ pub fn compared_of(op: Binary, left: &Numbered, right: &Numbered) -> Option<Refu
     ensures { result ≡ first_broken (compared_of op left.now right.now) }
 {
     match (&left.row, &right.row) {
-        (Some(a), Some(b)) => coefficient(compares(op, a, b), left.first),
+        (Some(a), Some(b)) => coefficient(comparison_passes(op, a, b), left.first),
         _ => None,
     }
 }
@@ -77,4 +76,11 @@ pub fn operands_of(op: Binary, left: &Numbered, right: &Numbered) -> Option<Refu
         Binary::Div | Binary::Mod => own_equation(left),
         _ => None,
     }
+}
+
+// Whether a divisor isn't constant, or is 0.
+fn is_bad_divisor(varies: bool, value: Option<Value>) -> bool
+    ensures { result ≡ is_bad_divisor varies value }
+{
+    varies || matches!(value, Some(Value::Whole(0)))
 }

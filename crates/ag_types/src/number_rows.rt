@@ -1,13 +1,13 @@
 //! The rows of expressions by those of their operands.
 ghost use Rattle.std.specs.Prelude.{◌≡◌, negsuc, true, IfOk, None};
+ghost use Rattle.ag_linear.specs.Rows.{plus, minus};
 ghost use Rattle.ag_types.specs.Numbered.{held, row_before, exact_of_unary, exact_of_product, exact_of_binary};
-ghost use Rattle.ag_types.specs.Rows.{plus, minus, both, scaled, row_of_hidden, row_of_stream};
+ghost use Rattle.ag_types.specs.Rows.{both, scaled, row_of_hidden, row_of_stream};
 
 use crate::numbered::Numbered;
-use crate::rows::{Kept, Linear, minus, plus, times};
-use crate::value::Value;
 use ag_annex::{Binary, Ty, Unary};
 use ag_base::OutOfMemory;
+use ag_linear::{Kept, Linear, Value, minus, plus, times};
 use std::alloc::Global;
 
 /// An operator before one operand, which names this integer stream or none.

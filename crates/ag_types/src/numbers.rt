@@ -1,13 +1,14 @@
 //! One pass over an expression, from its leaves up, by the rules on numbers.
 ghost use Rattle.std.specs.Prelude.{◌≡◌, IfOk, Some};
 ghost use Rattle.std.specs.Option.{option_copied};
-ghost use Rattle.ag_types.specs.Constants.{AreKept, carried, value_at};
+ghost use Rattle.ag_symbols.specs.Seen.{sought, value_of};
+ghost use Rattle.ag_linear.specs.Values.{carried, passes_limit};
+ghost use Rattle.ag_types.specs.Constants.{AreKept, value_at};
 ghost use Rattle.ag_types.specs.Firsts.{either};
-ghost use Rattle.ag_types.specs.NumberFaults.{passes_limit, side_faults};
+ghost use Rattle.ag_types.specs.NumberFaults.{side_faults};
 ghost use Rattle.ag_types.specs.Numbered.{known, number_by, truth_by, named_head, named_by, named_stream, unary_by, varies_between, divisor_of, binary_breaks, binary_by, choice_breaks, choice_by, call_by, breaks_among};
 ghost use Rattle.ag_types.specs.Places.{first_broken};
 ghost use Rattle.ag_types.specs.Rows.{whole_stream};
-ghost use Rattle.ag_types.specs.Seen.{sought, value_of};
 ghost use Rattle.ag_types.specs.Types.{type_of_var};
 
 use crate::number_faults::{compared_of, divisor_of, operands_of, pre_of, product_of};
@@ -16,16 +17,13 @@ use crate::numbered::{
     Faults, Head, Numbered, UNBROKEN, closed, coefficient, own_equation, with_argument,
 };
 use crate::places::{earlier, either, path_place};
-use crate::sight::Sight;
 use crate::types::{type_of_binary, type_of_call, type_of_unary};
-use crate::value::{Value, Valued, binary_value, choice_value, unary_value};
 use ag_aadl::packages::Path;
 use ag_annex::{Binary, NodeDef, Term, Ty, Unary};
 use ag_base::{OutOfMemory, Place, Refusal};
+use ag_linear::{Value, binary_value, choice_value, literal_value, passes_limit, unary_value};
+use ag_symbols::Sight;
 use std::alloc::Global;
-
-// The greatest magnitude of a constant, 2^62.
-const MOST: u128 = 4611686018427387904;
 
 /// What is known of an expression, where the constants that are seen have these values.
 #[cycle(numbered)]
@@ -97,7 +95,7 @@ fn arguments(
 fn number(alloc: Global, value: i64, place: Place) -> Numbered
     ensures { result ≡ number_by value place }
 {
-    let literal = literal(value);
+    let literal = literal_value(value);
     let head = Head {
         ty: Some(Ty::Int),
         varies: false,
@@ -109,26 +107,6 @@ fn number(alloc: Global, value: i64, place: Place) -> Numbered
         of_parts: None,
     };
     closed(alloc, head, no_row(), faults)
-}
-
-fn literal(value: i64) -> Valued
-    ensures value { result.value ≡ carried (Some (Value.Whole value)) }
-    ensures passes { result.passes ≡ passes_limit (Some (Value.Whole value)) }
-{
-    let value = Some(Value::Whole(i128::from(value)));
-    Valued {
-        value,
-        passes: passes_limit(value),
-    }
-}
-
-fn passes_limit(value: Option<Value>) -> bool
-    ensures { result ≡ passes_limit value }
-{
-    match value {
-        Some(Value::Whole(value)) => value.unsigned_abs() > MOST,
-        _ => false,
-    }
 }
 
 fn truth(alloc: Global, value: bool, place: Place) -> Numbered

@@ -4,36 +4,35 @@ ghost use Rattle.std.specs.List.{filter};
 ghost use Rattle.std.specs.Option.{option_copied};
 ghost use Rattle.std.specs.Coded.{codes};
 ghost use Rattle.std.proofs.Props.{props};
-ghost use Rattle.ag_types.specs.ValuedProps.{value_of-prop};
 ghost use Rattle.ag_annex.specs.contracts.terms.Term as term;
 ghost use Rattle.ag_base.specs.declared.place.Refusal.{Refusal};
 ghost use Rattle.ag_base.specs.declared.place.Refused.TheVariants.{Model};
 ghost use Rattle.ag_graph.specs.Circles.{AreCircles};
+ghost use Rattle.ag_symbols.specs.Seen.{Seen, library_names, frame_names, names_seen, value_of, node_of};
+ghost use Rattle.ag_linear.specs.declared.value.Value.{Value};
 ghost use Rattle.ag_types.specs.Answers.{Breaks, IsFirst, IsRefusal, IsSound};
 ghost use Rattle.ag_types.specs.Constants.{AreKept};
 ghost use Rattle.ag_types.specs.ConstantWorth.{AreWorth};
-ghost use Rattle.ag_types.specs.declared.value.Value.{Value};
 ghost use Rattle.ag_types.specs.Numbers.{numbers_from};
-ghost use Rattle.ag_types.specs.Seen.{Seen, library_names, frame_names, names_seen, value_of, node_of};
 ghost use Rattle.ag_types.specs.SumRows.{HaveValues};
 ghost use Rattle.ag_types.specs.Sums.{is_whole, whole_streams};
 ghost use Rattle.ag_types.specs.Types.{IsTyped, IsIllTyped};
 ghost use Rattle.ag_types.specs.Uses.{uses_of, AreValues, IsCircular};
+ghost use Rattle.ag_types.specs.ValuedProps.{value_of-prop};
 
 use crate::constants::values;
 use crate::faults::first_fault;
 use crate::integers::integers_before;
 use crate::number_clauses::first_number_fault;
 use crate::places::either;
-use crate::sight::Sight;
-use crate::sites::{Site, Sites};
 use crate::types::type_of_term;
 use crate::uses::{constants, first_circle, uses};
-use crate::value::Value;
 use ag_aadl::packages::Path;
 use ag_annex::{Clause, NodeDef, Term, Ty, Var};
 use ag_base::{OutOfMemory, Refusal, Refused};
 use ag_graph::{Circles, circles};
+use ag_linear::Value;
+use ag_symbols::{Sight, Site, Sites};
 use std::alloc::Global;
 use std::marker::Model;
 
@@ -58,7 +57,7 @@ pub struct Scope<'a> {
 impl<'a> Model for Scope<'a> {
     ghost use Rattle.std.specs.Coded.{codes};
     ghost use Rattle.ag_annex.specs.contracts.terms.Term as term;
-    ghost use Rattle.ag_types.specs.Seen.{Seen};
+    ghost use Rattle.ag_symbols.specs.Seen.{Seen};
 
     ghost Value = { Seen };
 

@@ -2,24 +2,24 @@
 ghost use Rattle.std.specs.Prelude.{◌≡◌, ◌≤◌, length, map, Err, IsTrue, IfOk, IfErr, All, Some};
 ghost use Rattle.ag_base.specs.declared.place.Refusal.{Refusal};
 ghost use Rattle.ag_base.specs.declared.place.Refused.TheVariants.{Model};
-ghost use Rattle.ag_types.specs.Constants.{is_within, AreKept};
+ghost use Rattle.ag_symbols.specs.Seen.{names_seen};
+ghost use Rattle.ag_linear.specs.Values.{is_within};
+ghost use Rattle.ag_linear.specs.RowOrder.{AreInOrder};
+ghost use Rattle.ag_types.specs.Constants.{AreKept};
 ghost use Rattle.ag_types.specs.Places.{first_broken};
-ghost use Rattle.ag_types.specs.Seen.{names_seen};
-ghost use Rattle.ag_types.specs.RowOrder.{AreInOrder};
 ghost use Rattle.ag_types.specs.Sums.{is_sum, whole_streams, sum_faults, IsRowOf, IsNoRow};
 ghost use Rattle.ag_types.specs.SumRows.{HaveValues, IsSumRow, IsTerm, numbered, numbered_row};
 
 use crate::numbers::numbered;
 use crate::places::either;
-use crate::rows::Linear;
 use crate::scope::Scope;
-use crate::sight::Sight;
 use crate::sums;
 use crate::types::{mismatch, typing};
-use crate::value::{Factor, Value};
 use ag_annex::{Term, Ty};
 use ag_base::{List, OutOfMemory, Refusal, Refused};
+use ag_linear::{Factor, Linear, Value};
 use ag_stream::problem::{Row, RowTerm};
+use ag_symbols::Sight;
 use std::alloc::Global;
 
 /// Whether an expression is a sum: where it isn't constant, it has no `if`, arrow, quotient, remainder or call,

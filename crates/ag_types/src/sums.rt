@@ -3,8 +3,8 @@ ghost use Rattle.std.specs.Prelude.{◌≡◌};
 ghost use Rattle.ag_types.specs.Sums.{adds, is_named_stream, is_sum};
 
 use crate::claims::is_varying;
-use crate::sight::Sight;
 use ag_annex::{Binary, Term, Unary};
+use ag_symbols::Sight;
 
 /// Where it isn't constant, an expression has no `if`, arrow, quotient, remainder or call, and `pre` of a
 /// stream alone.

@@ -2,17 +2,17 @@
 ghost use Rattle.std.specs.Prelude.{◌≡◌, ◌++◌, [], ◌∷◌, map, IfOk, if◌then◌else◌};
 ghost use Rattle.std.specs.List.Sorted.{IsPermutation};
 ghost use Rattle.ag_base.specs.declared.place.Rule.TheVariants.{Twice};
+ghost use Rattle.ag_symbols.specs.Seen.{Names};
 ghost use Rattle.ag_types.specs.ClauseFaults.{declared, equation_names, is_declared_before, node_sees, node_twice, twice_among};
 ghost use Rattle.ag_types.specs.Places.{first_broken};
-ghost use Rattle.ag_types.specs.Seen.{Names};
 
 use crate::earliest::Earliest;
 use crate::names::{declared_names, node_names, push_equations, seen_names};
 use crate::places::either;
-use crate::sight::Sight;
 use ag_aadl::packages::Ident;
 use ag_annex::{Clause, NodeDef, Var};
 use ag_base::{OutOfMemory, Refusal, Rule};
+use ag_symbols::Sight;
 use std::alloc::Global;
 
 /// The first name of a scope that is declared at an earlier place too.

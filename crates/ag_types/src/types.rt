@@ -5,16 +5,16 @@ ghost use Rattle.ag_annex.specs.declared.clauses.Ty.{Ty};
 ghost use Rattle.ag_annex.specs.declared.terms.Term.{Term};
 ghost use Rattle.ag_annex.specs.declared.clauses.Ty.TheVariants.{Bool as Boolean};
 ghost use Rattle.ag_base.specs.declared.place.Refusal.{Refusal};
+ghost use Rattle.ag_symbols.specs.Seen.{Names, value_of};
 ghost use Rattle.ag_types.specs.Firsts.{either, type_of_unary, needed_alone, first_mismatch, mismatches_in, faults_among, inputs_of, first_of_call};
 ghost use Rattle.ag_types.specs.Places.{first_place, first_broken, path_place, earlier};
-ghost use Rattle.ag_types.specs.Seen.{Names, value_of};
 ghost use Rattle.ag_types.specs.Types.{type_in, type_of_var, type_of_call, type_of_outputs, type_of_binary, same_type, needed_first, needed_second, mismatch, arity, unknown, faults_in, value_faults, IsTyped, IsIllTyped};
 
 use crate::places::{earlier, either, path_place};
-use crate::sight::Sight;
 use ag_aadl::packages::Path;
 use ag_annex::{Binary, NodeDef, Term, Ty, Unary, Var};
 use ag_base::{Place, Refusal, Rule};
+use ag_symbols::Sight;
 
 /// What is known of a term: its type, if it has one, the first rule on types that it breaks, and the place
 /// of its first token.

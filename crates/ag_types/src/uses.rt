@@ -2,18 +2,17 @@
 ghost use Rattle.std.specs.Prelude.{◌≡◌, ◌<◌, ◌≤◌, ◌+◌, ◌^◌, ◌++◌, ◌∷◌, [], map, length, IfOk, OnOk};
 ghost use Rattle.std.specs.List.{flat_map};
 ghost use Rattle.ag_graph.specs.Circles.{AreCircles, IsGraph};
+ghost use Rattle.ag_symbols.specs.Seen.{Seen, library_names, frame_names, names_seen, names_of_node, sought, position, node_name};
 ghost use Rattle.ag_types.specs.Answers.{IsFirst};
 ghost use Rattle.ag_types.specs.Places.{first_broken};
-ghost use Rattle.ag_types.specs.Seen.{Seen, library_names, frame_names, names_seen, names_of_node, sought, position, node_name};
 ghost use Rattle.ag_types.specs.Uses.{constant_in, constants_of, of_constant, of_node, at_most_one, behind, used_in, used_by, uses_of, with_edges, circular, circular_from, IsCircular};
 
 use crate::places::either;
-use crate::sight::Sight;
-use crate::sites::{Site, Sites, own_of};
 use ag_aadl::packages::Path;
 use ag_annex::{Clause, NodeDef, Term, Var};
 use ag_base::{OutOfMemory, Place, Refusal, Rule};
 use ag_graph::{Circles, Graph};
+use ag_symbols::{Sight, Site, Sites, node_streams};
 use std::alloc::Global;
 use std::marker::Model;
 
@@ -165,7 +164,7 @@ fn push_uses_of_node(
     requires { constants < 2 ^ 63 }
     ensures { OnOk result (graph.new ≡ graph.old ++ flat_map (used_in (names_of_node site.now node.now) constants) (map (λ e. e.value) node.now.equations) ∷ []) }
 {
-    let own = own_of(alloc, node)?;
+    let own = node_streams(alloc, node)?;
     let sight = site.sight_of(&own);
     graph.push_vertex()?;
     for equation in node.equations.as_slice() {

@@ -1,8 +1,8 @@
 use Rattle.std.proofs.Common.{◌≡◌, ap, ◌∙◌}
 use Rattle.std.specs.Prelude.{Some, None}
 use Rattle.ag_types.specs.declared.numbered.Numbered.{Numbered}
-use Rattle.ag_types.specs.ClauseFaults.{constant_faults}
 use Rattle.ag_types.specs.Constants.{is_kept}
+use Rattle.ag_types.specs.ClauseFaults.{constant_faults}
 use Rattle.ag_types.specs.Firsts.{either}
 use Rattle.ag_types.specs.NumberFaults.{constant_faults_in}
 use Rattle.ag_types.specs.Places.{first_broken}

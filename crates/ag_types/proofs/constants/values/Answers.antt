@@ -2,7 +2,7 @@ use Rattle.std.proofs.Common.{◌≡◌, ◌<◌, ℕ, List, Bool, length, get_o
 use Rattle.std.specs.Prelude.{Option, None, false, slice_get, slice_index_or}
 use Rattle.std.proofs.lemmas.Bool.{true≢false}
 use Rattle.std.proofs.lemmas.Option.{slice_get_read}
-use Rattle.ag_types.specs.declared.value.Value.{Value}
+use Rattle.ag_linear.specs.declared.value.Value.{Value}
 use Rattle.ag_types.specs.Uses.{Constant, declared_value, uses_of}
 use Rattle.ag_types.proofs.Evaluating.{none_evaluated, evaluated, all_evaluated}
 use Rattle.ag_types.proofs.constants.values.Goals as goal

@@ -1,7 +1,7 @@
 use Rattle.std.proofs.Common.{◌∙◌}
 use Rattle.std.specs.List.{flat_map}
-use Rattle.ag_types.specs.ClauseFaults.{clause_faults, twice_among, declared, targets, second_source, assign_in}
-use Rattle.ag_types.specs.Seen.{Seen, clauses_seen, over_sites}
+use Rattle.ag_symbols.specs.Seen.{Seen, clauses_seen, over_sites, targets}
+use Rattle.ag_types.specs.ClauseFaults.{clause_faults, twice_among, declared, second_source, assign_in}
 use Rattle.ag_types.proofs.Each.{three}
 use Rattle.ag_types.proofs.faults.first_fault.Goals as goal
 

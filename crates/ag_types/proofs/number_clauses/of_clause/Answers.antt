@@ -5,11 +5,11 @@ use Rattle.ag_annex.specs.declared.clauses.Clause.{Clause}
 use Rattle.ag_annex.specs.declared.clauses.Clause.TheVariants as clause
 use Rattle.ag_annex.specs.declared.clauses.Equal.{Equal}
 use Rattle.ag_annex.specs.declared.clauses.Labelled.{Labelled}
+use Rattle.ag_symbols.specs.Seen.{Names}
+use Rattle.ag_linear.specs.declared.value.Value.{Value}
 use Rattle.ag_types.specs.declared.numbered.Numbered.{Numbered}
-use Rattle.ag_types.specs.declared.value.Value.{Value}
 use Rattle.ag_types.specs.NumberFaults.{formula_faults, side_faults, clause_numbers}
 use Rattle.ag_types.specs.Places.{first_broken}
-use Rattle.ag_types.specs.Seen.{Names}
 use Rattle.ag_types.proofs.number_clauses.of_clause.Goals as goal
 
 answered : {E : Type 0} (r : Result (Option Refusal) E) (a b : Option Refusal) → a ≡ b → IfOk r (λ o. o ≡ a) → IfOk r (λ o. o ≡ b)

@@ -2,12 +2,12 @@
 use Rattle.std.proofs.Common.{ap, sym, ◌∙◌}
 use Rattle.std.specs.Prelude.{Contains, ◌⊎◌}
 use Rattle.std.proofs.Math.Path.{subst}
+use Rattle.ag_symbols.specs.Seen.{Seen}
 use Rattle.ag_types.specs.Answers.{Breaks, IsFirst}
 use Rattle.ag_types.specs.ClauseFaults.{faults_of}
 use Rattle.ag_types.specs.NumberFaults.{number_faults}
 use Rattle.ag_types.specs.Places.{first_broken}
 use Rattle.ag_types.specs.Uses.{IsCircular}
-use Rattle.ag_types.specs.Seen.{Seen}
 use Rattle.ag_types.proofs.Answering.{first_of_two, first_in}
 use Rattle.ag_types.proofs.scope.check.Goals as goal
 

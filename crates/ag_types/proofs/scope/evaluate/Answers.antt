@@ -5,7 +5,7 @@ use Rattle.std.specs.List.{flat_map}
 use Rattle.ag_annex.specs.declared.clauses.Clause.{Clause}
 use Rattle.ag_annex.specs.declared.clauses.Var.{Var}
 use Rattle.ag_graph.specs.Circles.{AreCircles}
-use Rattle.ag_types.specs.Seen.{Seen, Names, library_names, frame_names, names_seen}
+use Rattle.ag_symbols.specs.Seen.{Seen, Names, library_names, frame_names, names_seen}
 use Rattle.ag_types.specs.Uses.{Constant, constant_in, constants_of}
 use Rattle.ag_types.proofs.ConstantsTyped.{constants_are_typed}
 use Rattle.ag_types.proofs.scope.evaluate.Goals as goal

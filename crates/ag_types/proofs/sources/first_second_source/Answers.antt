@@ -1,9 +1,9 @@
 use Rattle.std.proofs.Common.{◌≡◌, List, refl, ◌∙◌}
 use Rattle.std.specs.List.{flat_map}
 use Rattle.ag_aadl.specs.declared.packages.Ident.{Ident}
+use Rattle.ag_symbols.specs.Seen.{Seen, clauses_seen}
 use Rattle.ag_types.specs.ClauseFaults.{assign_in, second_source}
 use Rattle.ag_types.specs.Places.{first_broken}
-use Rattle.ag_types.specs.Seen.{Seen, clauses_seen}
 use Rattle.ag_types.proofs.BreakingMore.{broken_more}
 use Rattle.ag_types.proofs.TwiceNames.{agree_permuted}
 use Rattle.ag_types.proofs.sources.first_second_source.Goals as goal

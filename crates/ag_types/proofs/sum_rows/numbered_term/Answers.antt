@@ -1,6 +1,6 @@
 -- A stream's number fits, and so does a factor that keeps its limit.
 use Rattle.std.proofs.Common.{◌<◌, length, arith}
-use Rattle.ag_types.specs.Seen.{names_seen}
+use Rattle.ag_symbols.specs.Seen.{names_seen}
 use Rattle.ag_types.proofs.FormedRows.{number_within}
 use Rattle.ag_types.proofs.NumberedRows.{stream_within, factor_back}
 use Rattle.ag_types.proofs.sum_rows.numbered_term.Goals as goal

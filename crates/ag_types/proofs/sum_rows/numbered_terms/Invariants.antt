@@ -1,5 +1,5 @@
 use Rattle.std.proofs.Common.{◌≡◌, map, take}
-use Rattle.ag_types.specs.Seen.{names_seen}
+use Rattle.ag_symbols.specs.Seen.{names_seen}
 use Rattle.ag_types.specs.SumRows.{numbered}
 use Rattle.ag_types.proofs.sum_rows.numbered_terms.Given as goal
 

@@ -1,5 +1,5 @@
 -- The numbered row of the sum, or the first broken rule.
-use Rattle.ag_types.specs.Seen.{names_seen}
+use Rattle.ag_symbols.specs.Seen.{names_seen}
 use Rattle.ag_types.specs.SumRows.{IsSumRow}
 use Rattle.ag_types.proofs.NumberedRows.{sum_row_of, refusal_of, sum_constant, sum_terms, is_row, is_no_row}
 use Rattle.ag_types.proofs.sum_rows.row_or_refusal.Goals as goal

@@ -1,6 +1,6 @@
 use Rattle.std.proofs.Common.{◌<◌, ◌^◌, rules, length, sym, ap, ◌∙◌, arith}
 use Rattle.std.proofs.lemmas.List.{length-map}
-use Rattle.ag_types.specs.Seen.{Names, sought, node_name}
+use Rattle.ag_symbols.specs.Seen.{Names, sought, node_name}
 use Rattle.ag_types.proofs.Positions.{position_within}
 use Rattle.ag_types.proofs.uses.behind.Goals as goal
 

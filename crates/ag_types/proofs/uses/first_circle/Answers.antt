@@ -1,7 +1,7 @@
 use Rattle.std.proofs.Common.{◌≡◌, length, map, refl, ap, sym, ◌∙◌, arith}
 use Rattle.std.specs.List.{flat_map}
 use Rattle.std.proofs.lemmas.List.{length-map}
-use Rattle.ag_types.specs.Seen.{Names, clauses_seen, nodes_in}
+use Rattle.ag_symbols.specs.Seen.{Names, clauses_seen, nodes_in}
 use Rattle.ag_types.proofs.Circling.{first_circular, flags_long, map_of}
 use Rattle.ag_types.proofs.uses.first_circle.Goals as goal
 

@@ -1,7 +1,7 @@
 use Rattle.std.proofs.Common.{◌++◌, ◌∷◌, [], ℕ, List, length, ap, sym, ◌∙◌, arith}
 use Rattle.std.specs.List.{flat_map}
 use Rattle.std.proofs.lemmas.List.{length_push}
-use Rattle.ag_types.specs.Seen.{names_of_node}
+use Rattle.ag_symbols.specs.Seen.{names_of_node}
 use Rattle.ag_types.specs.Uses.{used_in, with_edges}
 use Rattle.ag_types.proofs.Using.{edges_more, edges_end, edges_of_new, flat_map_of}
 use Rattle.ag_types.proofs.uses.push_uses_of_node.Goals as goal

@@ -1,7 +1,7 @@
 -- The number that was kept for a place is that of the integer streams before it.
 use Rattle.std.proofs.Common.{◌≡◌, ◌≤◌, ◌<◌, ◌+◌, ℕ, List, length, take, get_or, filter, ap, ◌∙◌, arith}
+use Rattle.ag_symbols.specs.Seen.{Seen, names_seen}
 use Rattle.ag_types.specs.Numbers.{numbers_from}
-use Rattle.ag_types.specs.Seen.{Seen, names_seen}
 use Rattle.ag_types.specs.Sums.{is_whole}
 use Rattle.ag_types.proofs.CountedIntegers.{numbers_long, number_at}
 use Rattle.ag_types.proofs.scope.Scope.integers_before.Goals as goal

@@ -1,0 +1,4 @@
+-- Values of constants, and rows, with their operators and limits.
+pub mod RowOrder
+pub mod Rows
+pub mod Values

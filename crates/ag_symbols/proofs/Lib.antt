@@ -1,0 +1,3 @@
+-- Lemmas.
+pub mod Orders
+pub mod Placing

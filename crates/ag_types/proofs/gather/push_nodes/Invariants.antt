@@ -1,8 +1,0 @@
-use Rattle.std.proofs.Common.{◌≡◌, ◌++◌, drop}
-use Rattle.std.specs.Prelude.{map}
-use Rattle.std.specs.List.{flat_map}
-use Rattle.ag_types.specs.Seen.{nodes_in}
-use Rattle.ag_types.proofs.gather.push_nodes.Given as goal
-
-abbrev pub invariant-loop-clause : goal.invariant-loop-clause
-invariant-loop-clause l = map (λ v. v.now) l.gathered.items ++ flat_map nodes_in (drop l.clause-index l.clauses) ≡ map (λ v. v.now) l.fn.gathered.items ++ flat_map nodes_in l.clauses

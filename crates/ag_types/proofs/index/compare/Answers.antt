@@ -1,6 +1,0 @@
-use Rattle.std.proofs.Common.{sym, ◌∙◌}
-use Rattle.ag_types.proofs.Orders.{longer_is_greater}
-use Rattle.ag_types.proofs.index.compare.Goals as goal
-
-pub returns-in-empty : goal.returns-in-empty
-returns-in-empty c = sym (longer_is_greater c.args.a.now c.loop-x.left.now c.loop-x.x-index c.loop-x-test.true c.in-empty.len_below) ∙ c.loop-x.invariant
