@@ -1,7 +1,7 @@
 //! Worked cases: what the crates answer to texts, from tokens to whole runs of the program.
 //!
-//! It has no items but tests. Each module stands for one public call, most with tables that have a case on
-//! each line, so that a case is added as a line. Start at `table`.
+//! It has no items but tests. Each module stands for one public call, and `rules` for all rules on annexes and
+//! types; most have tables with a case on each line, so that a case is added as a line. Start at `table`.
 #![tactic(auto)]
 
 #[cfg(test)]
@@ -12,6 +12,8 @@ mod packages;
 mod prints;
 #[cfg(test)]
 mod refusals;
+#[cfg(test)]
+mod rules;
 #[cfg(test)]
 mod runs;
 #[cfg(test)]

@@ -1,4 +1,4 @@
-//! Refusals: which rule of tokens, packages and clauses a text breaks first, and where, as `print -` tells it.
+//! Refusals: which rule of tokens and packages a text breaks first, and where, as `print -` tells it.
 use crate::runs::expect_run;
 use crate::table::{field, is_case, marked};
 use ag_base::Status;
@@ -92,152 +92,6 @@ fn refuses_packages(rt: HostRuntime) -> Result<(), Fail> {
     Ok(())
 }
 
-// A case is a rule, the site of an annex and its clauses.
-const CLAUSES: &str = "
--- Rules of tokens.
-BadByte | type | eq x :^\u{1} int;
-OpenString | type | assume ^\"a : true;
-OpenAnnex | package | const ^{** **
-WideNumber | package | const n : int = ^140737488355329;
-WideNumber | type | guarantee \"g\" : x <= ^140737488355329;
--- What the grammar expects, at a token and at the annex's end.
-Expected | type | assume \"a\" ^true;
-Expected | type | ^x
-Expected | type | assume \"a\" : ^1.5;
-Expected | type | assume \"a\" : private ^x;
-Expected | type | assume \"a\" : x^..y;
-Expected | type | eq ^assume : int;
-Expected | type | assume \"a\" : true^
-Expected | implementation | eq^
-Expected | package | node f() returns (^); let tel;
-Expected | package | node f() returns (x : int); let x = 1; tel^
-Expected | type | assume ^: x;
-Expected | type | assume a ^b \"c\" : x;
-Expected | type | assume \"a\" ^x;
-Expected | type | assume \"a\" : ^;
-Expected | type | guarantee ^assume \"a\" : x;
-Expected | type | eq ^= x;
-Expected | type | eq x ^;
-Expected | type | eq x : int,^;
-Expected | type | eq x : int = ^;
-Expected | implementation | assign x ^: int = y;
-Expected | implementation | assign a^.b = y;
-Expected | type | const n : int^;
-Expected | type | const n : int^, m : int = 1;
-Expected | type | node f ^returns (y : int); let tel;
-Expected | type | node f(x : int,^) returns (y : int); let tel;
-Expected | type | node f() returns (y : int) ^let tel;
-Expected | type | node f() returns (y : int); var v : int ^let tel;
-Expected | type | node f() returns (y : int); ^y = 1; tel;
-Expected | type | node f() returns (y : int); let y = 1 ^tel;
-Expected | type | node f() returns (y : int); let tel^
-Expected | type | ^tel;
--- No comparison behind a comparison.
-Expected | type | assume \"a\" : x < y ^< z;
-Expected | type | assume \"a\" : x = - y + 1 ^<> z;
-Expected | type | assume \"a\" : f((x < y) < z, p >= q ^!= r);
--- Clauses that have no place at the site.
-Misplaced | package | ^assume \"a\" : true;
-Misplaced | package | ^guarantee \"a\" : true;
-Misplaced | package | ^lemma \"a\" : true;
-Misplaced | package | ^eq x : int;
-Misplaced | package | ^assign x = 1;
-Misplaced | type | ^lemma \"a\" : true;
-Misplaced | type | eq x : int; ^ASSIGN x = 1;
-Misplaced | implementation | ^Assume \"a\" : true;
--- The first of two.
-BadByte | implementation | assume ; ^\u{7f}
-Misplaced | implementation | ^assume ;
-Expected | implementation | eq ^; assume
-Expected | type | assume \"a\" : x < y ^< z / 2;
-Unsupported / | type | assume \"a\" : x ^/ y; lemma
--- Words that the contract language has elsewhere.
-Unsupported real | type | eq x : ^real;
-Unsupported real | type | eq x : ^REAL;
-Unsupported event | type | assume \"a\" : ^event(x);
-Unsupported assert | type | ^assert \"a\" : x;
-Unsupported property | type | ^property p = x;
-Unsupported fun | type | ^fun f(x : int) : int = x;
-Unsupported enum | type | eq x : ^enum {a, b};
-Unsupported struct | type | eq x : ^struct {a : int};
-Unsupported calendar | type | ^calendar c = (x, y);
-Unsupported synchrony | type | ^synchrony : 1;
-Unsupported linearization | type | ^linearization f(x : int) : int;
-Unsupported forall | type | assume \"a\" : ^forall x;
-Unsupported exists | type | assume \"a\" : ^exists x;
-Unsupported foreach | type | assume \"a\" : ^foreach x;
-Unsupported / | type | assume \"a\" : x ^/ y > 0;
-Unsupported [ | type | assume \"a\" : x^[0];
-Unsupported { | type | assume \"a\" : s^{a := 1};
-";
-
-#[test]
-fn refuses_clauses(rt: HostRuntime) -> Result<(), Fail> {
-    for line in CLAUSES.lines() {
-        if is_case(line) {
-            let (rule, rest) = field(line)?;
-            let (site, clauses) = field(rest)?;
-            let text = in_annex(rt.alloc(), site, clauses)?;
-            expect_refused(&rt, rt.alloc(), rule, text.as_str())?;
-        }
-    }
-    Ok(())
-}
-
-// A case is a rule and the value of an `assign`.
-const EXPRESSIONS: &str = "
-Expected | ^
-Expected | a ^b
-Expected | a +^
-Expected | a ^not b
-Expected | ^* a
-Expected | if a ^else b
-Expected | if a then b^
-Expected | if a then b else^
-Expected | (a^
-Expected | (^)
-Expected | (a^, b)
-Expected | a^)
-Expected | pre ^x
-Expected | pre(^)
-Expected | pre(x^, y)
-Expected | prev(x^)
-Expected | prev(x, y^, z)
-Expected | f(^, x)
-Expected | f(x,^)
-Expected | f(x^
-Expected | f(x)^(y)
-Expected | a < if b then c else d < e ^< f
-Expected | f(x)^.y
-Expected | a.b^.c
-Expected | a.b^::c
-Expected | a::^
-Expected | a.^
-Expected | 1^(x)
-Expected | 1 ^2
-Expected | ^1.5
-Expected | ^\"a\"
-Unsupported / | x ^/ y
-Unsupported [ | x^[1]
-Expected | x ^.. y
-Expected | a ^<-> b
-Expected | ^let
-Expected | ^int
-";
-
-#[test]
-fn refuses_expressions(rt: HostRuntime) -> Result<(), Fail> {
-    for line in EXPRESSIONS.lines() {
-        if is_case(line) {
-            let (rule, expression) = field(line)?;
-            let clause = format!(in rt.alloc(); "assign x = {expression};")?;
-            let text = in_annex(rt.alloc(), "implementation", clause.as_str())?;
-            expect_refused(&rt, rt.alloc(), rule, text.as_str())?;
-        }
-    }
-    Ok(())
-}
-
 // Texts of several lines, with their rules.
 const SEVERAL_LINES: &[(&str, &str)] = &[
     // Tokens of the file, its packages, tokens of all annexes, their clauses.
@@ -306,8 +160,8 @@ annex agree {** eq **};\nend P;\n",
     ),
     (
         "WideNumber",
-        "package P\npublic\nwith Base_Types;\nsystem S\nfeatures\n\nannex agree {**\nguarantee \"g\" : x < ^140737488355329;\n**};\nend S;\n\
-system implementation S.i\nannex agree {**\n**};\nend S.i;\nend P;\n",
+        "package P\npublic\nwith Base_Types;\nsystem S\nfeatures\nx : in data port Base_Types::Integer;\nannex agree {**\nguarantee \"g\" : x < ^140737488355329;\n**};\nend S;\n\
+system implementation S.i\nannex agree {**\n\n**};\nend S.i;\nend P;\n",
     ),
 ];
 
