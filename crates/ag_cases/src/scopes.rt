@@ -20,7 +20,7 @@ fn port(alloc: Global, name: &str, ty: Ty) -> Result<Var, OutOfMemory> {
     })
 }
 
-/// The streams of ports that the expressions see.
+/// The streams that the expressions see besides those of clauses.
 pub fn ports(alloc: Global) -> Result<List<Var>, OutOfMemory> {
     let mut ports = List::new(alloc);
     ports.push(port(alloc, "i", Ty::Int)?)?;

@@ -9,8 +9,8 @@ use Rattle.ag_annex.specs.declared.clauses.Clause.TheVariants as clause
 use Rattle.ag_annex.specs.declared.clauses.NodeDef.{NodeDef}
 use Rattle.ag_annex.specs.declared.clauses.Var.{Var}
 
--- the clauses of a package's own annexes, of a component type's and of an implementation's, and the streams of ports: own ones by their
--- names, those of subcomponents as `c.x`
+-- the clauses of a package's own annexes, of a component type's and of an implementation's, and the streams that aren't declared there:
+-- those of own ports by their names, and those of subcomponents, of their ports and by `eq` of their types, as `c.x`
 pub record Seen : Type 0 where
   pub library : List Clause
   pub frame : List Clause
@@ -42,7 +42,7 @@ pub record Names : Type 0 where
   pub constants : List Var
   pub nodes : List NodeDef
 
--- what is named where these clauses are seen, and these streams of ports
+-- what is named where these clauses are seen, and these streams
 abbrev pub names_at : List Var → List Clause → Names
 names_at ports clauses = record { streams = ports ++ flat_map eq_streams_in clauses; constants = flat_map constants_in clauses; nodes = flat_map nodes_in clauses }
 

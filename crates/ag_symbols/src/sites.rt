@@ -32,7 +32,7 @@ impl<'a> Model for Site<'a> {
 }
 
 impl<'a> Site<'a> {
-    // These streams of ports, and what three lists of clauses declare.
+    // These streams, and what three lists of clauses declare.
     fn make(
         alloc: Global,
         ports: Vec<&'a Var>,
@@ -84,8 +84,8 @@ pub struct Sites<'a> {
 }
 
 impl<'a> Sites<'a> {
-    /// `ports` are the streams of ports: own ones by their names, those of subcomponents as `c.x`. A port without
-    /// a stream isn't listed.
+    /// `ports` are the streams that aren't declared by these clauses: those of own ports by their names, and those
+    /// of subcomponents, of their ports and by `eq` of their types, as `c.x`. A port without a stream isn't listed.
     pub fn make(
         alloc: Global,
         library: &'a [Clause],

@@ -37,7 +37,8 @@ use std::alloc::Global;
 use std::marker::Model;
 
 /// The clauses of a package's own annexes, of a component type's and of an implementation's, and the
-/// streams of ports, which together break no rule on types. It lends these, and finds names in them.
+/// streams that these don't declare, which together break no rule on types. It lends these, and finds
+/// names in them.
 #[derive(Drop)]
 pub struct Scope<'a> {
     library: &'a [Clause],
@@ -67,8 +68,9 @@ impl<'a> Model for Scope<'a> {
 }
 
 impl<'a> Scope<'a> {
-    /// The scope of these clauses and streams, or the first rule on types that the clauses break. Streams
-    /// of subcomponents are named `c.x`; a port without a stream isn't listed.
+    /// The scope of these clauses and streams, or the first rule on types that the clauses break. `ports` has
+    /// the streams of own ports, and those of subcomponents, of their ports and by `eq` of their types, as
+    /// `c.x`; a port without a stream isn't listed.
     pub fn make(
         alloc: Global,
         library: &'a [Clause],
