@@ -9,13 +9,3 @@ pub mod NumbersFit
 pub mod Decimals
 pub mod Ending
 pub mod Fitting
-pub mod Ranks
-pub mod Levels
-pub mod Joining
-pub mod Flat
-pub mod Reaching
-pub mod Names
-pub mod FlatReading
-pub mod Parsing
-pub mod Deriving
-pub mod EachExpression

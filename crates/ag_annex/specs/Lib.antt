@@ -14,4 +14,3 @@ pub mod Expressions
 pub mod Clauses
 pub mod Unsupported
 pub mod Annexes
-pub mod Lines

@@ -51,7 +51,7 @@ behind_operator r (Chain q count ∷ opens) =
     else (if r == q then Chain r (count + 1) ∷ opens else Chain r 1 ∷ Chain q count ∷ opens)
 behind_operator r (o ∷ opens) = Chain r 1 ∷ o ∷ opens
 
--- A comparison does so where its operands have no comparison yet. Else it ends the operand behind the innermost `else`, and
+-- A comparison ends what binds tighter, where no other one waits for that. Else it ends the operand behind the innermost `else`, and
 -- compares that choice, if it isn't compared yet, and so on outwards. So it has no place where no such operand is open in the same
 -- brackets, or before the same `then` or `else`.
 abbrev mutual

@@ -51,7 +51,7 @@ use ag_grammar::{one_derivation, one_place, read};
 use ag_lex::Token;
 pub use clauses::{Clause, Equal, Labelled, NodeDef, Site, Ty, Var};
 use ends::refusal_at;
-pub use laws::{annex_is_founded, expressions_by_lines, one_of_the_two};
+pub use laws::{annex_is_founded, one_of_the_two};
 use meaning::clauses_of;
 pub use page::Clauses;
 use rules::run;

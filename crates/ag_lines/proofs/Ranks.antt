@@ -13,7 +13,8 @@ use Rattle.ag_annex.specs.declared.terms.Binary.TheVariants.{Arrow, Implies, Iff
 use Rattle.ag_annex.specs.declared.terms.Term.{Term}
 use Rattle.ag_annex.specs.declared.terms.Term.TheViews as term
 use Rattle.ag_annex.specs.Expressions.{ends_before, close_before, close_choice}
-use Rattle.ag_annex.specs.Lines.{IsRanked, tighter, leftward, rightward, compared, factor}
+use Rattle.ag_lines.specs.Lines.{factor}
+use Rattle.ag_lines.specs.Reach.{Tail, NoChoice, Taking, IsFar, IsStated, tighter, leftward, rightward, compared, negative, negated, number, truth, falsity, grouped, previous, started, chosen, named, called}
 use Rattle.ag_annex.specs.Nesting.{behind_operator, behind_comparison, behind_choice}
 use Rattle.ag_annex.specs.Operators.{binary_of, rank, comparison, last_right}
 
@@ -86,38 +87,99 @@ rank_within Mod = omega arith
 
 -- ---- operands
 
+-- where operators bind tighter than comparisons none of these waits
+pub none-waits : (bytes : List ℕ) {r : ℕ} {ms : List Marked} {t : Term} {tail : Tail} {waiting : Bool} → IsFar bytes r ms t tail waiting → comparison < r → waiting ≡ false
+none-waits bytes (tighter r ms t tail waiting h is) k = none-waits bytes is (omega (arith, k))
+none-waits bytes (leftward op m before after left right tail waits waiting b low other l r) k = none-waits bytes r (omega (arith, k))
+none-waits bytes (rightward op m before after left right tail waits waiting b low l r) k = absurd (omega (arith, k, low))
+none-waits bytes (compared op m before after left right end tail waits waiting b e far l r) k = absurd (omega (arith, k))
+none-waits bytes (negative m ms t tail waiting e is) k = refl
+none-waits bytes (negated m ms t tail waiting e is) k = refl
+none-waits bytes (number m e) k = refl
+none-waits bytes (truth m e) k = refl
+none-waits bytes (falsity m e) k = refl
+none-waits bytes (grouped m n ms t tail waiting x y is) k = refl
+none-waits bytes (previous w m n ms t tail waiting x y z is) k = refl
+none-waits bytes (started w m c n es is e i end tail waits waiting x y z q l r) k = refl
+none-waits bytes (chosen w m n tests firsts others test first other test_tail first_tail tail test_waits first_waits waiting x y z a b c) k = refl
+none-waits bytes (named ms path n) k = refl
+none-waits bytes (called ms args m n path ts is x y are) k = refl
+
+-- an expression with this end may stand before an operator of this rank
+abbrev pub Precedes : ℕ → Tail → Type 0
+Precedes r tail = (r ≡ comparison → tail ≡ Taking → ⊥) × ((r ≡ comparison → ⊥) → tail ≡ NoChoice)
+
 -- the same by how many ranks less is asked
-loosen-by : (bytes : List ℕ) (count r : ℕ) (ms : List Marked) (t : Term) → r + count ≤ factor → IsRanked bytes (r + count) ms t → IsRanked bytes r ms t
-loosen-by bytes zero r ms t h is = let e : r + 0 ≡ r = omega arith in subst (λ (n : ℕ). IsRanked bytes n ms t) e is
-loosen-by bytes (suc count) r ms t h is =
+loosen-by : (bytes : List ℕ) (count r : ℕ) (ms : List Marked) (t : Term) (tail : Tail) (waiting : Bool) → r + count ≤ factor → IsFar bytes (r + count) ms t tail waiting → IsFar bytes r ms t tail waiting
+loosen-by bytes zero r ms t tail waiting h is = let e : r + 0 ≡ r = omega arith in subst (λ (n : ℕ). IsFar bytes n ms t tail waiting) e is
+loosen-by bytes (suc count) r ms t tail waiting h is =
     let e : r + suc count ≡ suc r + count = omega arith in
-    tighter r ms t (omega arith) (loosen-by bytes count (suc r) ms t (omega arith) (subst (λ (n : ℕ). IsRanked bytes n ms t) e is))
+    tighter r ms t tail waiting (omega arith) (loosen-by bytes count (suc r) ms t tail waiting (omega arith) (subst (λ (n : ℕ). IsFar bytes n ms t tail waiting) e is))
 
 -- what binds tightly is an operand where less is asked
-pub loosen : (bytes : List ℕ) (r q : ℕ) (ms : List Marked) (t : Term) → r ≤ q → q ≤ factor → IsRanked bytes q ms t → IsRanked bytes r ms t
-loosen bytes r q ms t h k is =
+pub loosen-far : (bytes : List ℕ) (r q : ℕ) (ms : List Marked) (t : Term) (tail : Tail) (waiting : Bool) → r ≤ q → q ≤ factor → IsFar bytes q ms t tail waiting → IsFar bytes r ms t tail waiting
+loosen-far bytes r q ms t tail waiting h k is =
     let e : q ≡ r + (q - r) = omega arith in
-    loosen-by bytes (q - r) r ms t (omega arith) (subst (λ (n : ℕ). IsRanked bytes n ms t) e is)
+    loosen-by bytes (q - r) r ms t tail waiting (omega arith) (subst (λ (n : ℕ). IsFar bytes n ms t tail waiting) e is)
+
+-- the same with its end
+abbrev pub loosen : (bytes : List ℕ) (r q : ℕ) (ms : List Marked) (t : Term) → r ≤ q → q ≤ factor → IsStated bytes q ms t → IsStated bytes r ms t
+loosen bytes r q ms t h k is = record { tail = is.tail; waiting = is.waiting; far = loosen-far bytes r q ms t is.tail is.waiting h k is.far }
+
+-- an operator with its operands has the end of its right one
+pub record Joined (bytes : List ℕ) (op : Binary) (ms : List Marked) (t : Term) (tail : Tail) (waiting : Bool) : Type 0 where
+  pub waits : Bool
+  pub far : IsFar bytes (rank op) ms t tail waits
+  pub keeps : waiting ≡ true → waits ≡ true
+  pub begins : rank op ≡ comparison → waits ≡ true
+
+-- operators that associate to the right, to the left, and comparisons
+joined-right : (bytes : List ℕ) (op : Binary) (m : Marked) (before after : List Marked) (left right : Term) (l : IsStated bytes (suc (rank op)) before left) (r : IsStated bytes (rank op) after right) → binary_of m.mark ≡ Some op → rank op ≤ last_right
+    → l.tail ≡ NoChoice → Joined bytes op (before ++ m ∷ after) (term.Binary op m.token.place left right) r.tail r.waiting
+joined-right bytes op m before after left right l r b low e = record {
+  waits = r.waiting;
+  far = rightward op m before after left right r.tail l.waiting r.waiting b low (subst (λ (z : Tail). IsFar bytes (suc (rank op)) before left z l.waiting) e l.far) r.far;
+  keeps = λ h. h;
+  begins = λ h. absurd (omega (arith, h, low));
+}
+
+joined-left : (bytes : List ℕ) (op : Binary) (m : Marked) (before after : List Marked) (left right : Term) (l : IsStated bytes (rank op) before left) (r : IsStated bytes (suc (rank op)) after right) → binary_of m.mark ≡ Some op → last_right < rank op → (rank op ≡ comparison → ⊥)
+    → l.tail ≡ NoChoice → Joined bytes op (before ++ m ∷ after) (term.Binary op m.token.place left right) r.tail r.waiting
+joined-left bytes op m before after left right l r b low other e = record {
+  waits = r.waiting;
+  far = leftward op m before after left right r.tail l.waiting r.waiting b low other (subst (λ (z : Tail). IsFar bytes (rank op) before left z l.waiting) e l.far) r.far;
+  keeps = λ h. h;
+  begins = λ h. absurd (other h);
+}
+
+joined-compared : (bytes : List ℕ) (op : Binary) (m : Marked) (before after : List Marked) (left right : Term) (l : IsStated bytes (suc comparison) before left) (r : IsStated bytes (suc comparison) after right) → binary_of m.mark ≡ Some op → (e : rank op ≡ comparison)
+    → (l.tail ≡ Taking → ⊥) → Joined bytes op (before ++ m ∷ after) (term.Binary op m.token.place left right) r.tail r.waiting
+joined-compared bytes op m before after left right l r b e h = record {
+  waits = true;
+  far = subst (λ (n : ℕ). IsFar bytes n (before ++ m ∷ after) (term.Binary op m.token.place left right) r.tail true) (sym e) (compared op m before after left right l.tail r.tail l.waiting r.waiting b e h l.far r.far);
+  keeps = λ k. refl;
+  begins = λ k. refl;
+}
 
 -- an operator between operands that bind as tightly as it asks
-pub joined : (bytes : List ℕ) (op : Binary) (m : Marked) (before behind : List Marked) (left right : Term) → binary_of m.mark ≡ Some op
-    → IsRanked bytes (left_of (rank op)) before left → IsRanked bytes (right_of (rank op)) behind right → IsRanked bytes (rank op) (before ++ m ∷ behind) (term.Binary op m.token.place left right)
-joined bytes Arrow m before behind left right e l r = rightward Arrow m before behind left right e (omega arith) l r
-joined bytes Implies m before behind left right e l r = rightward Implies m before behind left right e (omega arith) l r
-joined bytes Iff m before behind left right e l r = rightward Iff m before behind left right e (omega arith) l r
-joined bytes Or m before behind left right e l r = leftward Or m before behind left right e (omega arith) (λ n. omega arith) l r
-joined bytes And m before behind left right e l r = leftward And m before behind left right e (omega arith) (λ n. omega arith) l r
-joined bytes Less m before behind left right e l r = compared Less m before behind left right e refl l r
-joined bytes AtMost m before behind left right e l r = compared AtMost m before behind left right e refl l r
-joined bytes More m before behind left right e l r = compared More m before behind left right e refl l r
-joined bytes AtLeast m before behind left right e l r = compared AtLeast m before behind left right e refl l r
-joined bytes Same m before behind left right e l r = compared Same m before behind left right e refl l r
-joined bytes Differs m before behind left right e l r = compared Differs m before behind left right e refl l r
-joined bytes Plus m before behind left right e l r = leftward Plus m before behind left right e (omega arith) (λ n. omega arith) l r
-joined bytes Minus m before behind left right e l r = leftward Minus m before behind left right e (omega arith) (λ n. omega arith) l r
-joined bytes Times m before behind left right e l r = leftward Times m before behind left right e (omega arith) (λ n. omega arith) l r
-joined bytes Div m before behind left right e l r = leftward Div m before behind left right e (omega arith) (λ n. omega arith) l r
-joined bytes Mod m before behind left right e l r = leftward Mod m before behind left right e (omega arith) (λ n. omega arith) l r
+pub joined : (bytes : List ℕ) (op : Binary) (m : Marked) (before after : List Marked) (left right : Term) → binary_of m.mark ≡ Some op
+    → (l : IsStated bytes (left_of (rank op)) before left) → Precedes (rank op) l.tail → (r : IsStated bytes (right_of (rank op)) after right) → Joined bytes op (before ++ m ∷ after) (term.Binary op m.token.place left right) r.tail r.waiting
+joined bytes Arrow m before after left right b l p r = joined-right bytes Arrow m before after left right l r b (omega arith) (p.1 (λ n. omega arith))
+joined bytes Implies m before after left right b l p r = joined-right bytes Implies m before after left right l r b (omega arith) (p.1 (λ n. omega arith))
+joined bytes Iff m before after left right b l p r = joined-right bytes Iff m before after left right l r b (omega arith) (p.1 (λ n. omega arith))
+joined bytes Or m before after left right b l p r = joined-left bytes Or m before after left right l r b (omega arith) (λ n. omega arith) (p.1 (λ n. omega arith))
+joined bytes And m before after left right b l p r = joined-left bytes And m before after left right l r b (omega arith) (λ n. omega arith) (p.1 (λ n. omega arith))
+joined bytes Less m before after left right b l p r = joined-compared bytes Less m before after left right l r b refl (p.0 refl)
+joined bytes AtMost m before after left right b l p r = joined-compared bytes AtMost m before after left right l r b refl (p.0 refl)
+joined bytes More m before after left right b l p r = joined-compared bytes More m before after left right l r b refl (p.0 refl)
+joined bytes AtLeast m before after left right b l p r = joined-compared bytes AtLeast m before after left right l r b refl (p.0 refl)
+joined bytes Same m before after left right b l p r = joined-compared bytes Same m before after left right l r b refl (p.0 refl)
+joined bytes Differs m before after left right b l p r = joined-compared bytes Differs m before after left right l r b refl (p.0 refl)
+joined bytes Plus m before after left right b l p r = joined-left bytes Plus m before after left right l r b (omega arith) (λ n. omega arith) (p.1 (λ n. omega arith))
+joined bytes Minus m before after left right b l p r = joined-left bytes Minus m before after left right l r b (omega arith) (λ n. omega arith) (p.1 (λ n. omega arith))
+joined bytes Times m before after left right b l p r = joined-left bytes Times m before after left right l r b (omega arith) (λ n. omega arith) (p.1 (λ n. omega arith))
+joined bytes Div m before after left right b l p r = joined-left bytes Div m before after left right l r b (omega arith) (λ n. omega arith) (p.1 (λ n. omega arith))
+joined bytes Mod m before after left right b l p r = joined-left bytes Mod m before after left right l r b (omega arith) (λ n. omega arith) (p.1 (λ n. omega arith))
 
 -- ---- what ends before an operator
 

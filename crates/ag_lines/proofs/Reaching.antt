@@ -14,12 +14,13 @@ use Rattle.ag_annex.specs.declared.nesting.Open.TheVariants.{Bracket, Test, Yes,
 use Rattle.ag_annex.specs.declared.terms.Binary.{Binary}
 use Rattle.ag_annex.specs.declared.terms.Term.{Term}
 use Rattle.ag_annex.specs.Expressions.{operand_term, is_nothing, close_before, close_all, behind_infix, behind_other, read_token, read_tokens}
-use Rattle.ag_annex.specs.Lines.{IsRanked, factor}
+use Rattle.ag_lines.specs.Lines.{factor}
+use Rattle.ag_lines.specs.Reach.{NoChoice, IsFar, IsStated}
 use Rattle.ag_annex.specs.Nesting.{outside, inside, behind_then, behind_else, behind_operator, behind_comparison, behind_rank, behind_mark, behind}
 use Rattle.ag_annex.specs.Operators.{binary_of, rank, comparison}
-use Rattle.ag_annex.proofs.Ranks.{left_most, rank_within}
-use Rattle.ag_annex.proofs.Levels.{Level, nothing, before_one, behind_else as waits_behind_else, between, Continues, Stops, Closed, hole-most}
-use Rattle.ag_annex.proofs.Joining.{closing, comparing, ending}
+use Rattle.ag_lines.proofs.Ranks.{left_most, rank_within}
+use Rattle.ag_lines.proofs.Levels.{Level, nothing, before_one, behind_else as waits_behind_else, between, Continues, Stops, Closed, hole-most}
+use Rattle.ag_lines.proofs.Joining.{closing, comparing, ending}
 
 -- ---- tokens
 
@@ -56,7 +57,7 @@ level-inner : (bytes : List ℕ) {level : List Frame} {ms : List Marked} {opens 
 level-inner bytes nothing = tt
 level-inner bytes (before_one op m level ms opens p lv) = level-inner bytes lv
 level-inner bytes (waits_behind_else w m n tests firsts test first level ms opens x y z a b lv) = level-inner bytes lv
-level-inner bytes (between op m lefts left count level ms inner opens b low goes l lv) = still-inner (rank op) inner opens goes (level-inner bytes lv)
+level-inner bytes (between op m lefts left count level ms inner opens b low goes l p lv) = still-inner (rank op) inner opens goes (level-inner bytes lv)
 
 -- a `)` ends what lies within its bracket
 pub crosses-close : (opens outer : List Open) → AreInner opens → outside (opens ++ Bracket ∷ outer) ≡ outer
@@ -145,7 +146,7 @@ pub record Behind (bytes : List ℕ) (base : List Frame) (outer : List Open) (al
   pub opening : opened ≡ opens ++ outer
   pub parts : all ≡ before ++ os
   pub stands : Level bytes level before opens
-  pub ranked : IsRanked bytes factor os (operand_term bytes operand)
+  pub ranked : IsFar bytes factor os (operand_term bytes operand) NoChoice false
   pub some : is_nothing operand ≡ false
 
 -- what is known, in other words
@@ -174,13 +175,13 @@ pub record Ended (bytes : List ℕ) (base : List Frame) (outer : List Open) (all
   pub closes : close_all frames (operand_term bytes operand) ≡ (base, last)
   pub opening : opened ≡ opens ++ outer
   pub inner : AreInner opens
-  pub ranked : IsRanked bytes 0 all last
+  pub ranked : IsStated bytes 0 all last
   pub some : is_nothing operand ≡ false
 
 -- behind an operand all that waits in the level can end
 pub ended : (bytes : List ℕ) (base : List Frame) (outer : List Open) → Stops base outer → (all : List Marked) (r : Reading) (opened : List Open) → Behind bytes base outer all r opened → Ended bytes base outer all r opened
 ended bytes base outer stops all r opened b =
-    let e = ending bytes base outer stops b.stands factor all b.os (operand_term bytes b.operand) b.parts (omega arith) (hole-most b.level) b.ranked in
+    let e = ending bytes base outer stops b.stands factor all b.os (operand_term bytes b.operand) b.parts (omega arith) (hole-most b.level) (record { tail = NoChoice; waiting = false; far = b.ranked }) in
     record {
       frames = b.level ++ base;
       operand = b.operand;
@@ -213,34 +214,34 @@ waits bytes base outer op m all closed opened b c =
       read = ap (behind_infix op m.token.place) c.closes;
       opening = c.opening;
       stands = subst (λ (z : List Marked). Level bytes (frame.Infix op m.token.place c.last ∷ c.level) z (Chain (rank op) c.count ∷ c.opens)) e
-          (between op m c.lefts c.last c.count c.level c.before c.inner c.opens b c.low c.goes c.ranked c.stands);
+          (between op m c.lefts c.last c.count c.level c.before c.inner c.opens b c.low c.goes c.ranked c.fits c.stands);
     }
 
 -- what is known behind an operator
-read-operator : (bytes : List ℕ) (r : Reading) (m : Marked) (op : Binary) → binary_of m.mark ≡ Some op → read_token bytes r m ≡ behind_infix op m.token.place (close_before (rank op) r.frames (operand_term bytes r.operand))
+pub read-operator : (bytes : List ℕ) (r : Reading) (m : Marked) (op : Binary) → binary_of m.mark ≡ Some op → read_token bytes r m ≡ behind_infix op m.token.place (close_before (rank op) r.frames (operand_term bytes r.operand))
 read-operator bytes r m op b = ap (λ (o : Option Binary). let x : Reading = elim o [
   | None ↦ behind_other bytes r m
   | Some q ↦ behind_infix q m.token.place (close_before (rank q) r.frames (operand_term bytes r.operand))
 ] in x) b
 
 -- what is open behind an operator
-opens-operator : (mark : ℕ) (opens : List Open) (op : Binary) → binary_of mark ≡ Some op → behind mark opens ≡ behind_rank (rank op) opens
+pub opens-operator : (mark : ℕ) (opens : List Open) (op : Binary) → binary_of mark ≡ Some op → behind mark opens ≡ behind_rank (rank op) opens
 opens-operator mark opens op b = ap (λ (o : Option Binary). let x : Option (List Open) = elim o [
   | None ↦ Some (behind_mark mark opens)
   | Some q ↦ behind_rank (rank q) opens
 ] in x) b
 
 -- the same where it is a comparison
-rank-compared : (r : ℕ) (opens : List Open) → r ≡ comparison → behind_rank r opens ≡ behind_comparison opens
+pub rank-compared : (r : ℕ) (opens : List Open) → r ≡ comparison → behind_rank r opens ≡ behind_comparison opens
 rank-compared r opens e = ap (λ (b : Bool). if b then behind_comparison opens else Some (behind_operator r opens)) (eq-eqb r comparison e)
 
 -- and where it is none
-rank-other : (r : ℕ) (opens : List Open) → (r ≡ comparison → ⊥) → behind_rank r opens ≡ Some (behind_operator r opens)
+pub rank-other : (r : ℕ) (opens : List Open) → (r ≡ comparison → ⊥) → behind_rank r opens ≡ Some (behind_operator r opens)
 rank-other r opens e = ap (λ (b : Bool). if b then behind_comparison opens else Some (behind_operator r opens)) (ne_eqb r comparison e)
 
 -- an operator behind an operand
 pub operator-read : (bytes : List ℕ) (base : List Frame) (outer : List Open) → Stops base outer → (level : List Frame) (ms : List Marked) (opens : List Open) → Level bytes level ms opens
-    → (os : List Marked) (operand : Operand) (m : Marked) (op : Binary) → binary_of m.mark ≡ Some op → IsRanked bytes factor os (operand_term bytes operand)
+    → (os : List Marked) (operand : Operand) (m : Marked) (op : Binary) → binary_of m.mark ≡ Some op → IsFar bytes factor os (operand_term bytes operand) NoChoice false
     → (opened : List Open) → behind m.mark (opens ++ outer) ≡ Some opened → Waits bytes base outer ((ms ++ os) ++ m ∷ []) (read_token bytes (record { frames = level ++ base; operand = operand }) m) opened
 operator-read bytes base outer stops level ms opens lv os operand m op b is opened f =
     let t = operand_term bytes operand in
@@ -248,12 +249,12 @@ operator-read bytes base outer stops level ms opens lv os operand m op b is open
     let found : Closed bytes (rank op) base outer (ms ++ os) (close_before (rank op) (level ++ base) t) opened = elim (cases_eq (rank op) comparison) [
       | inl e ↦
           subst (λ (r : ℕ). Closed bytes r base outer (ms ++ os) (close_before r (level ++ base) t) opened) (sym e)
-          (comparing bytes base outer stops lv factor (ms ++ os) os t refl (omega arith) (hole-most level) (omega arith) is opened (sym (rank-compared (rank op) (opens ++ outer) e) ∙ sym g ∙ f))
+          (comparing bytes base outer stops lv factor (ms ++ os) os t refl (omega arith) (hole-most level) (omega arith) (record { tail = NoChoice; waiting = false; far = is }) (λ k. absurd cc) opened (sym (rank-compared (rank op) (opens ++ outer) e) ∙ sym g ∙ f))
       | inr e ↦
           let two : Some opened ≡ Some (behind_operator (rank op) (opens ++ outer)) = sym f ∙ g ∙ rank-other (rank op) (opens ++ outer) e in
           let same : behind_operator (rank op) (opens ++ outer) ≡ opened = cc in
           subst (λ (z : List Open). Closed bytes (rank op) base outer (ms ++ os) (close_before (rank op) (level ++ base) t) z) same
-          (closing bytes base outer stops (rank op) e (rank_within op) lv factor (ms ++ os) os t refl (omega arith) (hole-most level) (let k = left_most (rank op) in let w = rank_within op in omega (arith, k, w)) is)
+          (closing bytes base outer stops (rank op) e (rank_within op) lv factor (ms ++ os) os t refl (omega arith) (hole-most level) (let k = left_most (rank op) in let w = rank_within op in omega (arith, k, w)) (record { tail = NoChoice; waiting = false; far = is }) refl)
     ] in
     subst (λ (r : Reading). Waits bytes base outer ((ms ++ os) ++ m ∷ []) r opened) (sym (read-operator bytes (record { frames = level ++ base; operand = operand }) m op b))
     (waits bytes base outer op m (ms ++ os) (close_before (rank op) (level ++ base) t) opened b found)

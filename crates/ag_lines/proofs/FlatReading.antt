@@ -19,17 +19,18 @@ use Rattle.ag_annex.specs.declared.terms.Term.{Term, Number, Truth, Named}
 use Rattle.ag_annex.specs.declared.terms.Term.TheViews as term
 use Rattle.ag_annex.specs.declared.terms.Unary.TheVariants as unary
 use Rattle.ag_annex.specs.Expressions.{operand_term, named as named_as, is_nothing, close_all, with_last, behind_close, behind_comma, behind_test, behind_yes, read_token, read_tokens}
-use Rattle.ag_annex.specs.Lines.{IsRanked, AreArguments, factor, negative, negated, number, truth, falsity, grouped, previous, started, named, called, no_argument, last_argument, next_argument, GoesOn, name_parts_in}
+use Rattle.ag_lines.specs.Lines.{factor, GoesOn, name_parts_in}
+use Rattle.ag_lines.specs.Reach.{NoChoice, IsFar, IsStated, AreFar, negative, negated, number, truth, falsity, grouped, previous, started, named, called, no_argument, last_argument, next_argument}
 use Rattle.ag_annex.specs.Marks.{negative_mark, not_mark, pre_mark, prev_mark, if_mark, then_mark, else_mark, number_mark, true_mark, false_mark, group_mark, operand_mark, call_mark, argument_mark, close_mark, path_mark, path_body_mark}
 use Rattle.ag_annex.specs.Nesting.{behind}
-use Rattle.ag_annex.proofs.Flat.{IsFlat, flat_choice, flat_prefix, flat_alone, flat_between, IsPrimary, flat_number, flat_truth, flat_falsity, flat_group, flat_pre, flat_prev, flat_name, flat_bare_call, flat_call, AreFlat, flat_last, flat_more, Opens, opens-apart, opens-next}
-use Rattle.ag_annex.proofs.Joining.{regroup-choice}
-use Rattle.ag_annex.proofs.Levels.{Level, nothing, before_one, behind_else, Stops}
-use Rattle.ag_annex.proofs.Names.{read-name, name-open, name-told}
-use Rattle.ag_annex.proofs.Reaching.{read-as, read-apart, AreInner, crosses-close, crosses-comma, crosses-then, crosses-else, stops-group, stops-pre, stops-prev, stops-start, stops-call, stops-test, stops-yes, Behind, arrived, ended, operator-read}
+use Rattle.ag_lines.proofs.Flat.{IsFlat, flat_choice, flat_prefix, flat_alone, flat_between, IsPrimary, flat_number, flat_truth, flat_falsity, flat_group, flat_pre, flat_prev, flat_name, flat_bare_call, flat_call, AreFlat, flat_last, flat_more, Opens, opens-apart, opens-next}
+use Rattle.ag_lines.proofs.Joining.{regroup-choice}
+use Rattle.ag_lines.proofs.Levels.{Level, nothing, before_one, behind_else, Stops}
+use Rattle.ag_lines.proofs.Names.{read-name, name-open, name-told}
+use Rattle.ag_lines.proofs.Reaching.{read-as, read-apart, AreInner, crosses-close, crosses-comma, crosses-then, crosses-else, stops-group, stops-pre, stops-prev, stops-start, stops-call, stops-test, stops-yes, Behind, arrived, ended, operator-read}
 
 -- nothing is read behind what opens this
-abbrev unread_in : List Frame → Reading
+abbrev pub unread_in : List Frame → Reading
 unread_in frames = record { frames = frames; operand = Nothing }
 
 -- ---- brackets and choices
@@ -40,7 +41,7 @@ record Separated (bytes : List ℕ) (base : List Frame) (next : List Open) (act 
   last : Term
   read : r ≡ read_tokens bytes (act operand (base, last)) more
   further : Opens next more opened
-  ranked : IsRanked bytes 0 ms last
+  ranked : IsStated bytes 0 ms last
   some : is_nothing operand ≡ false
 
 -- A token with this mark ends what lies before it in its brackets, and is read with it.
@@ -66,7 +67,7 @@ separated bytes base o outer next stops k act acts crosses ms m more opened e in
     }
 
 -- behind an operand the arguments have one more
-with-some : (args : List Term) (o : Operand) (t : Term) → is_nothing o ≡ false → with_last args o t ≡ args ++ t ∷ []
+pub with-some : (args : List Term) (o : Operand) (t : Term) → is_nothing o ≡ false → with_last args o t ≡ args ++ t ∷ []
 with-some args Nothing t e = absurd cc
 with-some args (Name parts bodies) t e = refl
 with-some args (Whole u) t e = refl
@@ -78,7 +79,7 @@ record Read (bytes : List ℕ) (frames : List Frame) (outer : List Open) (ps : L
   operand : Operand
   read : r ≡ record { frames = frames; operand = operand }
   opening : outer ≡ opened
-  ranked : IsRanked bytes factor ps (operand_term bytes operand)
+  ranked : IsFar bytes factor ps (operand_term bytes operand) NoChoice false
   some : is_nothing operand ≡ false
 
 -- the arguments of a call are read with its `)`
@@ -87,11 +88,11 @@ record Arguments (bytes : List ℕ) (path : Path) (args : List Term) (frames : L
   ts : List Term
   read : r ≡ record { frames = frames; operand = Whole (term.Call path (args ++ t ∷ ts)) }
   opening : outer ≡ opened
-  are : AreArguments bytes es (t ∷ ts)
+  are : AreFar bytes es (t ∷ ts)
 
 -- one token that is an operand
 single : (bytes : List ℕ) (frames : List Frame) (outer opened : List Open) (m : Marked) (k : ℕ) (t : Term) → m.mark ≡ k → behind k outer ≡ Some outer
-    → read_token bytes (unread_in frames) (record { mark = k; terminal = m.terminal; token = m.token }) ≡ record { frames = frames; operand = Whole t } → IsRanked bytes factor (m ∷ []) t
+    → read_token bytes (unread_in frames) (record { mark = k; terminal = m.terminal; token = m.token }) ≡ record { frames = frames; operand = Whole t } → IsFar bytes factor (m ∷ []) t NoChoice false
     → Opens outer (m ∷ []) opened → Read bytes frames outer (m ∷ []) (read_tokens bytes (unread_in frames) (m ∷ [])) opened
 single bytes frames outer opened m k t e f g is o = record {
   operand = Whole t;
@@ -111,7 +112,7 @@ lone bytes frames outer opened m ms e g o =
       operand = Name (m.token ∷ name_parts_in ms) (under path_body_mark ms);
       read = read-name bytes frames m ms e g;
       opening = name-open outer m ms opened e g o;
-      ranked = subst (λ (z : Term). IsRanked bytes factor (m ∷ ms) z) t (named (m ∷ ms) n.path n.named);
+      ranked = subst (λ (z : Term). IsFar bytes factor (m ∷ ms) z NoChoice false) t (named (m ∷ ms) n.path n.named);
       some = refl;
     }
 
@@ -174,13 +175,13 @@ mutual
       arrived bytes base outer all _ (read_tokens bytes (unread_in (frame.Prefix unary.Minus m.token.place ∷ (level ++ base))) ms) opened
       (ap (λ r. read_tokens bytes r ms) (read-as bytes (unread_in (level ++ base)) m negative_mark x))
       (read-flat bytes is base outer stops (frame.Prefix unary.Minus m.token.place ∷ level) (before ++ m ∷ []) (Prefix ∷ opens)
-      (before_one unary.Minus m level before opens (λ os t r. negative m os t x r) lv) all opened (e ∙ sym (append_assoc before (m ∷ []) ms))
+      (before_one unary.Minus m level before opens (λ os t tail waiting r. negative m os t tail waiting x r) lv) all opened (e ∙ sym (append_assoc before (m ∷ []) ms))
       (opens-next (opens ++ outer) m ms opened negative_mark (Prefix ∷ (opens ++ outer)) x refl o))
   read-flat bytes (flat_prefix m ms (inr x) is) base outer stops level before opens lv all opened e o =
       arrived bytes base outer all _ (read_tokens bytes (unread_in (frame.Prefix unary.Not m.token.place ∷ (level ++ base))) ms) opened
       (ap (λ r. read_tokens bytes r ms) (read-as bytes (unread_in (level ++ base)) m not_mark x))
       (read-flat bytes is base outer stops (frame.Prefix unary.Not m.token.place ∷ level) (before ++ m ∷ []) (Prefix ∷ opens)
-      (before_one unary.Not m level before opens (λ os t r. negated m os t x r) lv) all opened (e ∙ sym (append_assoc before (m ∷ []) ms))
+      (before_one unary.Not m level before opens (λ os t tail waiting r. negated m os t tail waiting x r) lv) all opened (e ∙ sym (append_assoc before (m ∷ []) ms))
       (opens-next (opens ++ outer) m ms opened not_mark (Prefix ∷ (opens ++ outer)) x refl o))
   read-flat bytes (flat_alone ps is) base outer stops level before opens lv all opened e o =
       let p = read-primary bytes is (level ++ base) (opens ++ outer) opened o in
@@ -222,7 +223,7 @@ mutual
         operand = Whole s.last;
         read = ap (λ r. read_tokens bytes r (ms ++ n ∷ [])) (read-as bytes (unread_in frames) m group_mark x) ∙ s.read;
         opening = s.further;
-        ranked = grouped m n ms s.last x y s.ranked;
+        ranked = grouped m n ms s.last s.ranked.tail s.ranked.waiting x y s.ranked.far;
         some = refl;
       }
   read-primary bytes (flat_pre w m n ms v x y is) frames outer opened o =
@@ -237,7 +238,7 @@ mutual
             ap (λ r. read_tokens bytes (read_token bytes r m) (ms ++ n ∷ [])) (read-as bytes (unread_in frames) w pre_mark v)
             ∙ ap (λ r. read_tokens bytes r (ms ++ n ∷ [])) (read-as bytes (unread_in (frame.Pre place ∷ frames)) m operand_mark x) ∙ s.read;
         opening = s.further;
-        ranked = previous w m n ms s.last v x y s.ranked;
+        ranked = previous w m n ms s.last s.ranked.tail s.ranked.waiting v x y s.ranked.far;
         some = refl;
       }
   read-primary bytes (flat_prev w m c n es is v x y z a b) frames outer opened o =
@@ -256,7 +257,7 @@ mutual
             ap (λ r. read_tokens bytes (read_token bytes r m) (es ++ c ∷ behind_comma_is)) (read-as bytes (unread_in frames) w prev_mark v)
             ∙ ap (λ r. read_tokens bytes r (es ++ c ∷ behind_comma_is)) (read-as bytes (unread_in (frame.Prev place ∷ frames)) m operand_mark x) ∙ s.read ∙ u.read;
         opening = u.further;
-        ranked = started w m c n es is s.last u.last v x y z s.ranked u.ranked;
+        ranked = started w m c n es is s.last u.last s.ranked.tail u.ranked.tail s.ranked.waiting u.ranked.waiting v x y z s.ranked.far u.ranked.far;
         some = refl;
       }
   read-primary bytes (flat_name m ms x g) frames outer opened o = lone bytes frames outer opened m ms x g o
@@ -286,7 +287,7 @@ mutual
         ts = [];
         read = s.read ∙ ap (λ z. let r : Reading = record { frames = frames; operand = Whole (term.Call path z) } in r) (with-some args s.operand s.last s.some);
         opening = s.further;
-        are = last_argument ms s.last s.ranked;
+        are = last_argument ms s.last s.ranked.tail s.ranked.waiting s.ranked.far;
       }
   read-arguments bytes (flat_more c ms more y is are) path args frames outer n opened x o =
       let apart : (ms ++ c ∷ more) ++ n ∷ [] ≡ ms ++ c ∷ (more ++ n ∷ []) = append_assoc ms (c ∷ more) (n ∷ []) in
@@ -302,5 +303,5 @@ mutual
             ap (λ z. read_tokens bytes (unread_in (frame.Call path args ∷ frames)) z) apart ∙ s.read ∙ a.read
             ∙ ap (λ z. let r : Reading = record { frames = frames; operand = Whole (term.Call path z) } in r) (append_assoc args (s.last ∷ []) (a.t ∷ a.ts));
         opening = a.opening;
-        are = next_argument c ms more s.last a.t a.ts y s.ranked a.are;
+        are = next_argument c ms more s.last a.t a.ts s.ranked.tail s.ranked.waiting y s.ranked.far a.are;
       }

@@ -34,7 +34,7 @@ rights_of (ls ∷ more) zero = rights_in ls
 rights_of (ls ∷ more) (suc n) = rights_of more n
 
 -- the productions of a line of the grammar
-abbrev productions_in : Certificate → ℕ → List Line → List PlainProduction
+abbrev pub productions_in : Certificate → ℕ → List Line → List PlainProduction
 productions_in c k ls = map (λ l. record { name = l.name; ahead = starts c (follow_of c k) l.right; right = l.right }) ls
 
 -- each production of a nonterminal stands in the grammar's lines
@@ -78,21 +78,23 @@ abbrev pub retake : (symbols others : List Symbol) → symbols ≡ others → At
 retake symbols others e a = record { steps = a.steps; xs = a.xs; ts = a.ts; even = a.even; derives = subst (λ z. Derives annex a.steps z a.xs) e a.derives }
 
 -- a terminal is shifted
-pub record Shifted (k : ℕ) (symbols : List Symbol) (tokens : List Marked) (bound : ℕ) : Type 0 where
+pub record Shifted (t k : ℕ) (symbols : List Symbol) (tokens : List Marked) (bound : ℕ) : Type 0 where
   pub token : Marked
+  pub terminal : token.terminal ≡ t
   pub mark : token.mark ≡ k
   pub to : At symbols
   pub parts : tokens ≡ token ∷ left to
   pub shorter : size to < bound
 
 -- a terminal is shifted by the first step
-shift-by : (t k : ℕ) (symbols : List Symbol) (steps : List Step) (xs : List ℕ) (ts : List Token) → length xs ≡ length ts → Derives annex steps (Terminal t k ∷ symbols) xs → Shifted k symbols (marked xs ts steps) (length steps)
+shift-by : (t k : ℕ) (symbols : List Symbol) (steps : List Step) (xs : List ℕ) (ts : List Token) → length xs ≡ length ts → Derives annex steps (Terminal t k ∷ symbols) xs → Shifted t k symbols (marked xs ts steps) (length steps)
 shift-by t k symbols [] xs ts e d = absurd d
 shift-by t k symbols (Expand name ∷ steps) xs ts e d = absurd d
 shift-by t k symbols (Shift mark ∷ steps) [] ts e d = absurd d
 shift-by t k symbols (Shift mark ∷ steps) (x ∷ xs) [] e d = absurd (omega arith)
 shift-by t k symbols (Shift mark ∷ steps) (x ∷ xs) (u ∷ ts) e d = record {
   token = record { mark = mark; terminal = x; token = u };
+  terminal = d.0;
   mark = d.1;
   to = record { steps = steps; xs = xs; ts = ts; even = omega arith; derives = d.2 };
   parts = refl;
@@ -100,7 +102,7 @@ shift-by t k symbols (Shift mark ∷ steps) (x ∷ xs) (u ∷ ts) e d = record {
 }
 
 -- the same, as it stands
-pub shift : (t k : ℕ) (symbols : List Symbol) (a : At (Terminal t k ∷ symbols)) → Shifted k symbols (left a) (size a)
+pub shift : (t k : ℕ) (symbols : List Symbol) (a : At (Terminal t k ∷ symbols)) → Shifted t k symbols (left a) (size a)
 shift t k symbols a = shift-by t k symbols a.steps a.xs a.ts a.even a.derives
 
 -- a nonterminal is replaced

@@ -1,5 +1,5 @@
 -- What waits for an operand since the last bracket, the tokens that it stands for, and what is open there.
-use Rattle.std.proofs.Common.{◌≡◌, ◌<◌, ◌≤◌, ◌⊎◌, ℕ, List, [], ◌∷◌, ◌++◌, Some, None, ap, arith}
+use Rattle.std.proofs.Common.{◌≡◌, ◌<◌, ◌≤◌, ◌⊎◌, ℕ, Bool, false, List, [], ◌∷◌, ◌++◌, Some, None, ap, arith}
 use Rattle.ag_aadl.specs.declared.marked.Marked.{Marked}
 use Rattle.ag_annex.specs.declared.frames.Frame.{Frame}
 use Rattle.ag_annex.specs.declared.frames.Frame.TheVariants as frame
@@ -10,11 +10,12 @@ use Rattle.ag_annex.specs.declared.terms.Term.{Term}
 use Rattle.ag_annex.specs.declared.terms.Term.TheViews as term
 use Rattle.ag_annex.specs.declared.terms.Unary.{Unary}
 use Rattle.ag_annex.specs.Expressions.{close_before, close_all}
-use Rattle.ag_annex.specs.Lines.{IsRanked, factor}
+use Rattle.ag_lines.specs.Lines.{factor}
+use Rattle.ag_lines.specs.Reach.{Tail, IsFar, IsStated}
 use Rattle.ag_annex.specs.Marks.{if_mark, then_mark, else_mark}
 use Rattle.ag_annex.specs.Nesting.{behind_operator, behind_comparison, behind_choice}
 use Rattle.ag_annex.specs.Operators.{binary_of, rank, comparison, last_right}
-use Rattle.ag_annex.proofs.Ranks.{right_of, left_of, right_most, right_next, rank_within}
+use Rattle.ag_lines.proofs.Ranks.{Precedes, right_of, left_of, right_most, right_next, rank_within}
 
 -- the rank that the operand has to have
 abbrev pub hole : List Frame → ℕ
@@ -29,13 +30,13 @@ Continues r inner opens = (inner ≡ opens) ⊎ ((count : ℕ) × (inner ≡ Cha
 -- what waits since the last bracket, for which tokens, and what is open there
 pub data Level (bytes : List ℕ) : List Frame → List Marked → List Open → Type 0 where
   nothing : Level bytes [] [] []
-  before_one : (op : Unary) (m : Marked) (level : List Frame) (ms : List Marked) (opens : List Open) → ((os : List Marked) (t : Term) → IsRanked bytes factor os t → IsRanked bytes factor (m ∷ os) (term.Unary op m.token.place t))
+  before_one : (op : Unary) (m : Marked) (level : List Frame) (ms : List Marked) (opens : List Open) → ((os : List Marked) (t : Term) (tail : Tail) (waiting : Bool) → IsFar bytes factor os t tail waiting → IsFar bytes factor (m ∷ os) (term.Unary op m.token.place t) tail false)
       → Level bytes level ms opens → Level bytes (frame.Prefix op m.token.place ∷ level) (ms ++ m ∷ []) (Prefix ∷ opens)
   behind_else : (w m n : Marked) (tests firsts : List Marked) (test first : Term) (level : List Frame) (ms : List Marked) (opens : List Open) → w.mark ≡ if_mark → m.mark ≡ then_mark → n.mark ≡ else_mark
-      → IsRanked bytes 0 tests test → IsRanked bytes 0 firsts first → Level bytes level ms opens
+      → IsStated bytes 0 tests test → IsStated bytes 0 firsts first → Level bytes level ms opens
       → Level bytes (frame.No w.token.place test first ∷ level) (ms ++ (w ∷ (tests ++ m ∷ (firsts ++ n ∷ [])))) (No ∷ opens)
   between : (op : Binary) (m : Marked) (lefts : List Marked) (left : Term) (count : ℕ) (level : List Frame) (ms : List Marked) (inner opens : List Open) → binary_of m.mark ≡ Some op → hole level ≤ rank op
-      → Continues (rank op) inner opens → IsRanked bytes (left_of (rank op)) lefts left → Level bytes level ms inner
+      → Continues (rank op) inner opens → (l : IsStated bytes (left_of (rank op)) lefts left) → Precedes (rank op) l.tail → Level bytes level ms inner
       → Level bytes (frame.Infix op m.token.place left ∷ level) (ms ++ (lefts ++ m ∷ [])) (Chain (rank op) count ∷ opens)
 
 -- nothing before the last bracket ends before its end
@@ -59,7 +60,8 @@ pub record Closed (bytes : List ℕ) (r : ℕ) (base : List Frame) (outer : List
   pub opening : opened ≡ Chain r count ∷ (opens ++ outer)
   pub parts : all ≡ before ++ lefts
   pub low : hole level ≤ r
-  pub ranked : IsRanked bytes (left_of r) lefts last
+  pub ranked : IsStated bytes (left_of r) lefts last
+  pub fits : Precedes r ranked.tail
   pub goes : Continues r inner opens
   pub stands : Level bytes level before inner
 
@@ -82,7 +84,7 @@ hole-of-chain : (bytes : List ℕ) {level : List Frame} {ms : List Marked} {open
 hole-of-chain bytes nothing r count rest e = absurd cc
 hole-of-chain bytes (before_one op m level ms opens p lv) r count rest e = absurd cc
 hole-of-chain bytes (behind_else w m n tests firsts test first level ms opens x y z a b lv) r count rest e = absurd cc
-hole-of-chain bytes (between op m lefts left c level ms inner opens b low goes l lv) r count rest e = let f : rank op ≡ r = cc in ap right_of f
+hole-of-chain bytes (between op m lefts left c level ms inner opens b low goes l p lv) r count rest e = let f : rank op ≡ r = cc in ap right_of f
 
 -- an operator that associates to the left has no chain of its rank before it
 pub not-chained : (bytes : List ℕ) {level : List Frame} {ms : List Marked} {opens : List Open} → Level bytes level ms opens → (r count : ℕ) (rest : List Open) → opens ≡ Chain r count ∷ rest → hole level ≤ r → last_right < r → ⊥

@@ -1,5 +1,5 @@
 -- What ends before an operator, and at the end of an expression, is an expression by the lines of the grammar.
-use Rattle.std.proofs.Common.{◌≡◌, ◌<◌, ◌≤◌, ◌+◌, inl, inr, ℕ, false, ◌==◌, ◌&&◌, List, [], ◌∷◌, ◌++◌, Some, None, refl, sym, ap, subst, ◌∙◌, append_assoc, arith}
+use Rattle.std.proofs.Common.{◌≡◌, ◌<◌, ◌≤◌, ◌+◌, inl, inr, ℕ, Bool, true, false, ◌==◌, ◌&&◌, List, [], ◌∷◌, ◌++◌, Some, None, refl, sym, ap, subst, ◌∙◌, append_assoc, arith}
 use Rattle.std.proofs.lemmas.Bool.{cases_order, cases_lt, ne_eqb, and_left, and_right}
 use Rattle.ag_aadl.specs.declared.marked.Marked.{Marked}
 use Rattle.ag_annex.specs.declared.frames.Frame.{Frame}
@@ -10,11 +10,12 @@ use Rattle.ag_annex.specs.declared.terms.Binary.{Binary}
 use Rattle.ag_annex.specs.declared.terms.Term.{Term}
 use Rattle.ag_annex.specs.declared.terms.Term.TheViews as term
 use Rattle.ag_annex.specs.Expressions.{close_before, close_choice, close_all}
-use Rattle.ag_annex.specs.Lines.{IsRanked, factor, chosen}
+use Rattle.ag_lines.specs.Lines.{factor}
+use Rattle.ag_lines.specs.Reach.{Tail, NoChoice, Taking, Full, IsFar, IsStated, chosen, tail_of_choice}
 use Rattle.ag_annex.specs.Nesting.{behind_operator, behind_comparison, behind_choice}
 use Rattle.ag_annex.specs.Operators.{binary_of, rank, comparison, last_right}
-use Rattle.ag_annex.proofs.Ranks.{right_of, left_of, right_most, right_same, right_below, left_most, left_same, rank_within, loosen, joined, ends-tighter, ends-left, stays-right, stays-looser, goes-on, goes-back, stays, chain-ends, chain-grows, chain-begins, compared-ends, compared-again, compared-begins}
-use Rattle.ag_annex.proofs.Levels.{Level, nothing, before_one, behind_else, between, Continues, Stops, Closed, hole, hole-most, not-chained}
+use Rattle.ag_lines.proofs.Ranks.{Precedes, Joined, loosen-far, none-waits, right_of, left_of, right_most, right_same, right_below, left_most, left_same, rank_within, loosen, joined, ends-tighter, ends-left, stays-right, stays-looser, goes-on, goes-back, stays, chain-ends, chain-grows, chain-begins, compared-ends, compared-again, compared-begins}
+use Rattle.ag_lines.proofs.Levels.{Level, nothing, before_one, behind_else, between, Continues, Stops, Closed, hole, hole-most, not-chained}
 
 -- ---- tokens
 
@@ -69,15 +70,34 @@ moved bytes r base outer all closed found opened opening e f c = record {
   parts = c.parts;
   low = c.low;
   ranked = c.ranked;
+  fits = c.fits;
   goes = c.goes;
   stands = c.stands;
 }
 
+-- ---- ends
+
+-- what has no choice at its end may stand before any operator
+precedes-all : (r : ℕ) (tail : Tail) → tail ≡ NoChoice → Precedes r tail
+precedes-all r tail e = (λ h k. let two : NoChoice ≡ Taking = sym e ∙ k in absurd cc, λ h. e)
+
+-- what takes no comparison in may stand before one
+precedes-comparison : (tail : Tail) → (tail ≡ Taking → ⊥) → Precedes comparison tail
+precedes-comparison tail h = (λ e. h, λ other. absurd (other refl))
+
+-- a choice whose last operand has a comparison that waits takes none in
+full-choice : (tail : Tail) (waiting : Bool) → (tail ≡ Taking → ⊥) → waiting ≡ true → tail_of_choice tail waiting ≡ Taking → ⊥
+full-choice Taking waiting h e f = h refl
+full-choice NoChoice true h e f = absurd cc
+full-choice NoChoice false h e f = absurd cc
+full-choice Full true h e f = absurd cc
+full-choice Full false h e f = absurd cc
+
 module _ (bytes : List ℕ) (base : List Frame) (outer : List Open) (stops : Stops base outer) where
   -- nothing ends
   stay : (r count : ℕ) (level : List Frame) (ms : List Marked) (inner opens : List Open) → Level bytes level ms inner → Continues r inner opens → hole level ≤ r → (all os : List Marked) (t : Term) (closed : List Frame × Term) (opened : List Open)
-      → all ≡ ms ++ os → IsRanked bytes (left_of r) os t → closed ≡ (level ++ base, t) → opened ≡ Chain r count ∷ (opens ++ outer) → Closed bytes r base outer all closed opened
-  stay r count level ms inner opens lv goes low all os t closed opened e is f g = record {
+      → all ≡ ms ++ os → (is : IsStated bytes (left_of r) os t) → Precedes r is.tail → closed ≡ (level ++ base, t) → opened ≡ Chain r count ∷ (opens ++ outer) → Closed bytes r base outer all closed opened
+  stay r count level ms inner opens lv goes low all os t closed opened e is p f g = record {
     level = level;
     before = ms;
     lefts = os;
@@ -90,6 +110,7 @@ module _ (bytes : List ℕ) (base : List Frame) (outer : List Open) (stops : Sto
     parts = e;
     low = low;
     ranked = is;
+    fits = p;
     goes = goes;
     stands = lv;
   }
@@ -99,131 +120,154 @@ module _ (bytes : List ℕ) (base : List Frame) (outer : List Open) (stops : Sto
   rests r left within nothing low t = stops.before r t
   rests r left within (before_one op m level ms opens p lv) low t = absurd (omega arith)
   rests r left within (behind_else w m n tests firsts test first level ms opens x y z a b lv) low t = refl
-  rests r left within (between op m lefts before count level ms inner opens b l goes k lv) low t =
+  rests r left within (between op m lefts before count level ms inner opens b l goes k p lv) low t =
       stays op m.token.place before r (level ++ base) t (stays-looser op r (right_below (rank op) r low left))
 
   -- an operator with its operands
-  whole : (op : Binary) (m : Marked) (lefts os : List Marked) (left t : Term) (q : ℕ) → binary_of m.mark ≡ Some op → IsRanked bytes (left_of (rank op)) lefts left → q ≤ factor → right_of (rank op) ≤ q → IsRanked bytes q os t
-      → IsRanked bytes (rank op) (lefts ++ m ∷ os) (term.Binary op m.token.place left t)
-  whole op m lefts os left t q b l k h is = joined bytes op m lefts os left t b l (loosen bytes (right_of (rank op)) q os t h k is)
+  whole : (op : Binary) (m : Marked) (lefts os : List Marked) (left t : Term) (q : ℕ) → binary_of m.mark ≡ Some op → (l : IsStated bytes (left_of (rank op)) lefts left) → Precedes (rank op) l.tail → q ≤ factor → right_of (rank op) ≤ q → (is : IsStated bytes q os t)
+      → Joined bytes op (lefts ++ m ∷ os) (term.Binary op m.token.place left t) is.tail is.waiting
+  whole op m lefts os left t q b l p k h is = joined bytes op m lefts os left t b l p (loosen bytes (right_of (rank op)) q os t h k is)
 
   -- an operator that associates to the left ends before one of its rank
   grows : (r : ℕ) → (r ≡ comparison → ⊥) → r < factor → last_right < r → (op : Binary) (m : Marked) (lefts : List Marked) (left : Term) (count : ℕ) (level : List Frame) (ms : List Marked) (inner opens : List Open)
-      → rank op ≡ r → binary_of m.mark ≡ Some op → hole level ≤ rank op → Continues (rank op) inner opens → IsRanked bytes (left_of (rank op)) lefts left → Level bytes level ms inner
-      → (q : ℕ) (all os : List Marked) (t : Term) → all ≡ (ms ++ (lefts ++ m ∷ [])) ++ os → q ≤ factor → right_of (rank op) ≤ q → IsRanked bytes q os t
+      → rank op ≡ r → binary_of m.mark ≡ Some op → hole level ≤ rank op → Continues (rank op) inner opens → (l : IsStated bytes (left_of (rank op)) lefts left) → Precedes (rank op) l.tail → Level bytes level ms inner
+      → (q : ℕ) (all os : List Marked) (t : Term) → all ≡ (ms ++ (lefts ++ m ∷ [])) ++ os → q ≤ factor → right_of (rank op) ≤ q → (is : IsStated bytes q os t) → is.tail ≡ NoChoice
       → Closed bytes r base outer all (close_before r (frame.Infix op m.token.place left ∷ (level ++ base)) t) (behind_operator r (Chain (rank op) count ∷ (opens ++ outer)))
-  grows r other within past op m lefts left count level ms inner opens same b low goes l lv q all os t e k h is =
+  grows r other within past op m lefts left count level ms inner opens same b low goes l p lv q all os t e k h is none =
       let down : hole level ≤ r = omega arith in
-      let under : IsRanked bytes (rank op) (lefts ++ m ∷ os) (term.Binary op m.token.place left t) = whole op m lefts os left t q b l k h is in
-      let ranked : IsRanked bytes (left_of r) (lefts ++ m ∷ os) (term.Binary op m.token.place left t) =
-      subst (λ (n : ℕ). IsRanked bytes n (lefts ++ m ∷ os) (term.Binary op m.token.place left t)) (same ∙ sym (left_same r other past)) under in
+      let under = whole op m lefts os left t q b l p k h is in
+      let ranked : IsFar bytes (left_of r) (lefts ++ m ∷ os) (term.Binary op m.token.place left t) is.tail under.waits =
+      subst (λ (n : ℕ). IsFar bytes n (lefts ++ m ∷ os) (term.Binary op m.token.place left t) is.tail under.waits) (same ∙ sym (left_same r other past)) under.far in
       let closes : close_before r (frame.Infix op m.token.place left ∷ (level ++ base)) t ≡ (level ++ base, term.Binary op m.token.place left t) =
       goes-on op m.token.place left r (level ++ base) t (ends-left op r same past) (not-both r (rank op) other)
       ∙ rests r past within lv down (term.Binary op m.token.place left t) in
       let alone : inner ≡ opens = elim goes [ inl f ↦ f | inr f ↦ absurd (not-chained bytes lv (rank op) f.0 opens f.1 low (omega arith)) ] in
-      stay r (count + 1) level ms inner opens lv (inl alone) down all (lefts ++ m ∷ os) (term.Binary op m.token.place left t) _ _ (e ∙ regroup ms lefts os m) ranked closes (chain-grows r (rank op) count (opens ++ outer) same)
+      stay r (count + 1) level ms inner opens lv (inl alone) down all (lefts ++ m ∷ os) (term.Binary op m.token.place left t) _ _ (e ∙ regroup ms lefts os m) (record { tail = is.tail; waiting = under.waits; far = ranked })
+      (precedes-all r is.tail none) closes (chain-grows r (rank op) count (opens ++ outer) same)
 
   -- an operator that associates to the right waits on before one of its rank
   waits : (r : ℕ) → r < factor → r ≤ last_right → (op : Binary) (m : Marked) (left : Term) (count : ℕ) (level : List Frame) (ms : List Marked) (opens : List Open)
       → rank op ≡ r → Level bytes (frame.Infix op m.token.place left ∷ level) ms (Chain (rank op) count ∷ opens)
-      → (q : ℕ) (all os : List Marked) (t : Term) → all ≡ ms ++ os → q ≤ factor → left_of r ≤ q → IsRanked bytes q os t
+      → (q : ℕ) (all os : List Marked) (t : Term) → all ≡ ms ++ os → q ≤ factor → left_of r ≤ q → (is : IsStated bytes q os t) → Precedes r is.tail
       → Closed bytes r base outer all (close_before r (frame.Infix op m.token.place left ∷ (level ++ base)) t) (behind_operator r (Chain (rank op) count ∷ (opens ++ outer)))
-  waits r within past op m left count level ms opens same lv q all os t e k j is =
+  waits r within past op m left count level ms opens same lv q all os t e k j is p =
       let low : right_of (rank op) ≤ r = let f = right_same (rank op) (omega arith) in omega (arith, f) in
       let chained : Chain (rank op) count ∷ opens ≡ Chain r count ∷ opens = ap (λ n. Chain n count ∷ opens) same in
       stay r (count + 1) (frame.Infix op m.token.place left ∷ level) ms (Chain (rank op) count ∷ opens) opens lv (inr (count, chained)) low all os t _ _ e
-      (loosen bytes (left_of r) q os t j k is) (stays op m.token.place left r (level ++ base) t (stays-right op r same past)) (chain-grows r (rank op) count (opens ++ outer) same)
+      (loosen bytes (left_of r) q os t j k is) p (stays op m.token.place left r (level ++ base) t (stays-right op r same past)) (chain-grows r (rank op) count (opens ++ outer) same)
 
   -- an operator that binds looser waits on
   looser : (r : ℕ) → (op : Binary) (m : Marked) (left : Term) (count : ℕ) (level : List Frame) (ms : List Marked) (opens : List Open)
       → rank op < r → Level bytes (frame.Infix op m.token.place left ∷ level) ms (Chain (rank op) count ∷ opens)
-      → (q : ℕ) (all os : List Marked) (t : Term) → all ≡ ms ++ os → q ≤ factor → left_of r ≤ q → IsRanked bytes q os t
+      → (q : ℕ) (all os : List Marked) (t : Term) → all ≡ ms ++ os → q ≤ factor → left_of r ≤ q → (is : IsStated bytes q os t) → Precedes r is.tail
       → Closed bytes r base outer all (close_before r (frame.Infix op m.token.place left ∷ (level ++ base)) t) (Chain r 1 ∷ Chain (rank op) count ∷ (opens ++ outer))
-  looser r op m left count level ms opens less lv q all os t e k j is =
+  looser r op m left count level ms opens less lv q all os t e k j is p =
       let low : right_of (rank op) ≤ r = let f = right_most (rank op) in omega (arith, f) in
       stay r 1 (frame.Infix op m.token.place left ∷ level) ms (Chain (rank op) count ∷ opens) (Chain (rank op) count ∷ opens) lv (inl refl) low all os t _ _ e
-      (loosen bytes (left_of r) q os t j k is) (stays op m.token.place left r (level ++ base) t (stays-looser op r less)) refl
+      (loosen bytes (left_of r) q os t j k is) p (stays op m.token.place left r (level ++ base) t (stays-looser op r less)) refl
 
   -- what ends before an operator that isn't a comparison
   pub closing : (r : ℕ) → (r ≡ comparison → ⊥) → r < factor → {level : List Frame} {ms : List Marked} {opens : List Open} → Level bytes level ms opens → (q : ℕ) (all os : List Marked) (t : Term)
-      → all ≡ ms ++ os → q ≤ factor → hole level ≤ q → left_of r ≤ q → IsRanked bytes q os t → Closed bytes r base outer all (close_before r (level ++ base) t) (behind_operator r (opens ++ outer))
-  closing r other within nothing q all os t e k h j is =
-      stay r 1 [] [] [] [] nothing (inl refl) (omega arith) all os t _ _ e (loosen bytes (left_of r) q os t j k is) (stops.before r t) (stops.operator r)
-  closing r other within (before_one op m level ms opens p lv) q all os t e k h j is =
-      closing r other within lv factor all (m ∷ os) (term.Unary op m.token.place t) (e ∙ append_assoc ms (m ∷ []) os) (omega arith) (hole-most level) (omega (arith, left_most r)) (p os t (loosen bytes factor q os t h k is))
-  closing r other within (behind_else w m n tests firsts test first level ms opens x y z a b lv) q all os t e k h j is =
+      → all ≡ ms ++ os → q ≤ factor → hole level ≤ q → left_of r ≤ q → (is : IsStated bytes q os t) → is.tail ≡ NoChoice → Closed bytes r base outer all (close_before r (level ++ base) t) (behind_operator r (opens ++ outer))
+  closing r other within nothing q all os t e k h j is none =
+      stay r 1 [] [] [] [] nothing (inl refl) (omega arith) all os t _ _ e (loosen bytes (left_of r) q os t j k is) (precedes-all r is.tail none) (stops.before r t) (stops.operator r)
+  closing r other within (before_one op m level ms opens p lv) q all os t e k h j is none =
+      closing r other within lv factor all (m ∷ os) (term.Unary op m.token.place t) (e ∙ append_assoc ms (m ∷ []) os) (omega arith) (hole-most level) (omega (arith, left_most r))
+      (record { tail = is.tail; waiting = false; far = p os t is.tail is.waiting (loosen-far bytes factor q os t is.tail is.waiting h k is.far) }) none
+  closing r other within (behind_else w m n tests firsts test first level ms opens x y z a b lv) q all os t e k h j is none =
       stay r 1 (frame.No w.token.place test first ∷ level) (ms ++ (w ∷ (tests ++ m ∷ (firsts ++ n ∷ [])))) (No ∷ opens) (No ∷ opens) (behind_else w m n tests firsts test first level ms opens x y z a b lv) (inl refl) (omega arith)
-      all os t _ _ e (loosen bytes (left_of r) q os t j k is) refl refl
-  closing r other within (between op m lefts left count level ms inner opens b low goes l lv) q all os t e k h j is =
+      all os t _ _ e (loosen bytes (left_of r) q os t j k is) (precedes-all r is.tail none) refl refl
+  closing r other within (between op m lefts left count level ms inner opens b low goes l p lv) q all os t e k h j is none =
       elim (cases_order r (rank op)) [
         | inl same ↦ elim (cases_lt last_right r) [
-          | inl past ↦ grows r other within past op m lefts left count level ms inner opens (sym same) b low goes l lv q all os t e k h is
-          | inr right ↦ waits r within right op m left count level (ms ++ (lefts ++ m ∷ [])) opens (sym same) (between op m lefts left count level ms inner opens b low goes l lv) q all os t e k j is
+          | inl past ↦ grows r other within past op m lefts left count level ms inner opens (sym same) b low goes l p lv q all os t e k h is none
+          | inr right ↦ waits r within right op m left count level (ms ++ (lefts ++ m ∷ [])) opens (sym same) (between op m lefts left count level ms inner opens b low goes l p lv) q all os t e k j is (precedes-all r is.tail none)
         ]
         | inr order ↦ elim order [
           | inl tight ↦
+              let under = whole op m lefts os left t q b l p k h is in
               moved bytes r base outer all _ _ _ _ (goes-on op m.token.place left r (level ++ base) t (ends-tighter op r tight) (not-both r (rank op) other))
               (chain-ends r (rank op) count (opens ++ outer) tight ∙ sym (continued-operator r (rank op) inner opens outer goes tight))
-              (closing r other within lv (rank op) all (lefts ++ m ∷ os) (term.Binary op m.token.place left t) (e ∙ regroup ms lefts os m) (omega (arith, rank_within op)) low (omega (arith, left_most r)) (whole op m lefts os left t q b l k h is))
+              (closing r other within lv (rank op) all (lefts ++ m ∷ os) (term.Binary op m.token.place left t) (e ∙ regroup ms lefts os m) (omega (arith, rank_within op)) low (omega (arith, left_most r))
+              (record { tail = is.tail; waiting = under.waits; far = under.far }) none)
           | inr loose ↦
               moved bytes r base outer all _ _ _ _ refl (chain-begins r (rank op) count (opens ++ outer) loose)
-              (looser r op m left count level (ms ++ (lefts ++ m ∷ [])) opens loose (between op m lefts left count level ms inner opens b low goes l lv) q all os t e k j is)
+              (looser r op m left count level (ms ++ (lefts ++ m ∷ [])) opens loose (between op m lefts left count level ms inner opens b low goes l p lv) q all os t e k j is (precedes-all r is.tail none))
         ]
       ]
 
   mutual
     -- what ends before a comparison
     pub comparing : {level : List Frame} {ms : List Marked} {opens : List Open} → Level bytes level ms opens → (q : ℕ) (all os : List Marked) (t : Term)
-        → all ≡ ms ++ os → q ≤ factor → hole level ≤ q → comparison < q → IsRanked bytes q os t → (opened : List Open) → behind_comparison (opens ++ outer) ≡ Some opened → Closed bytes comparison base outer all (close_before comparison (level ++ base) t) opened
-    comparing nothing q all os t e k h j is opened f =
+        → all ≡ ms ++ os → q ≤ factor → hole level ≤ q → comparison < q → (is : IsStated bytes q os t) → (is.tail ≡ Taking → ⊥) → (opened : List Open) → behind_comparison (opens ++ outer) ≡ Some opened
+        → Closed bytes comparison base outer all (close_before comparison (level ++ base) t) opened
+    comparing nothing q all os t e k h j is full opened f =
         let g : opened ≡ Chain comparison 1 ∷ outer = let two : Some opened ≡ Some (Chain comparison 1 ∷ outer) = sym f ∙ stops.compared in cc in
-        stay comparison 1 [] [] [] [] nothing (inl refl) (omega arith) all os t _ _ e (loosen bytes (left_of comparison) q os t j k is) (stops.before comparison t) g
-    comparing (before_one op m level ms opens p lv) q all os t e k h j is opened f =
-        comparing lv factor all (m ∷ os) (term.Unary op m.token.place t) (e ∙ append_assoc ms (m ∷ []) os) (omega arith) (hole-most level) (omega arith) (p os t (loosen bytes factor q os t h k is)) opened f
-    comparing (behind_else w m n tests firsts test first level ms opens x y z a b lv) q all os t e k h j is opened f =
+        stay comparison 1 [] [] [] [] nothing (inl refl) (omega arith) all os t _ _ e (loosen bytes (left_of comparison) q os t j k is) (precedes-comparison is.tail full) (stops.before comparison t) g
+    comparing (before_one op m level ms opens p lv) q all os t e k h j is full opened f =
+        comparing lv factor all (m ∷ os) (term.Unary op m.token.place t) (e ∙ append_assoc ms (m ∷ []) os) (omega arith) (hole-most level) (omega arith)
+        (record { tail = is.tail; waiting = false; far = p os t is.tail is.waiting (loosen-far bytes factor q os t is.tail is.waiting h k is.far) }) full opened f
+    comparing (behind_else w m n tests firsts test first level ms opens x y z a b lv) q all os t e k h j is full opened f =
         let g : opened ≡ Chain comparison 1 ∷ No ∷ (opens ++ outer) = cc in
         stay comparison 1 (frame.No w.token.place test first ∷ level) (ms ++ (w ∷ (tests ++ m ∷ (firsts ++ n ∷ [])))) (No ∷ opens) (No ∷ opens) (behind_else w m n tests firsts test first level ms opens x y z a b lv) (inl refl) (omega arith)
-        all os t _ _ e (loosen bytes (left_of comparison) q os t j k is) refl g
-    comparing (between op m lefts left count level ms inner opens b low goes l lv) q all os t e k h j is opened f =
+        all os t _ _ e (loosen bytes (left_of comparison) q os t j k is) (precedes-comparison is.tail full) refl g
+    comparing (between op m lefts left count level ms inner opens b low goes l p lv) q all os t e k h j is full opened f =
+        let under = whole op m lefts os left t q b l p k h is in
         elim (cases_order comparison (rank op)) [
           | inl same ↦
               moved bytes comparison base outer all _ _ _ _ (goes-back op m.token.place left (level ++ base) t (ends-left op comparison (sym same) (omega arith)) (sym same)) refl
-              (choosing lv (rank op) all (lefts ++ m ∷ os) (term.Binary op m.token.place left t) (e ∙ regroup ms lefts os m) (omega (arith, rank_within op)) low (whole op m lefts os left t q b l k h is) opened
+              (choosing lv (rank op) all (lefts ++ m ∷ os) (term.Binary op m.token.place left t) (e ∙ regroup ms lefts os m) (omega (arith, rank_within op)) low
+              (record { tail = is.tail; waiting = under.waits; far = under.far }) full (under.begins (sym same)) opened
               (continued-choice (rank op) inner opens outer goes ∙ sym (compared-again (rank op) count (opens ++ outer) (sym same)) ∙ f))
           | inr order ↦ elim order [
             | inl tight ↦
                 moved bytes comparison base outer all _ _ _ _ (goes-on op m.token.place left comparison (level ++ base) t (ends-tighter op comparison tight) (not-last comparison (rank op) (λ n. omega arith))) refl
-                (comparing lv (rank op) all (lefts ++ m ∷ os) (term.Binary op m.token.place left t) (e ∙ regroup ms lefts os m) (omega (arith, rank_within op)) low tight (whole op m lefts os left t q b l k h is) opened
+                (comparing lv (rank op) all (lefts ++ m ∷ os) (term.Binary op m.token.place left t) (e ∙ regroup ms lefts os m) (omega (arith, rank_within op)) low tight (record { tail = is.tail; waiting = under.waits; far = under.far }) full opened
                 (continued-comparison (rank op) inner opens outer goes tight ∙ sym (compared-ends (rank op) count (opens ++ outer) tight) ∙ f))
             | inr loose ↦
                 let two : Some opened ≡ Some (Chain comparison 1 ∷ Chain (rank op) count ∷ (opens ++ outer)) = sym f ∙ compared-begins (rank op) count (opens ++ outer) loose in
                 let g : opened ≡ Chain comparison 1 ∷ Chain (rank op) count ∷ (opens ++ outer) = cc in
                 moved bytes comparison base outer all _ _ _ _ refl g
-                (looser comparison op m left count level (ms ++ (lefts ++ m ∷ [])) opens loose (between op m lefts left count level ms inner opens b low goes l lv) q all os t e k j is)
+                (looser comparison op m left count level (ms ++ (lefts ++ m ∷ [])) opens loose (between op m lefts left count level ms inner opens b low goes l p lv) q all os t e k j is (precedes-comparison is.tail full))
           ]
         ]
 
     -- what ends before a second comparison: the operand behind the innermost `else`, and what ends behind that choice
     pub choosing : {level : List Frame} {ms : List Marked} {opens : List Open} → Level bytes level ms opens → (q : ℕ) (all os : List Marked) (t : Term)
-        → all ≡ ms ++ os → q ≤ factor → hole level ≤ q → IsRanked bytes q os t → (opened : List Open) → behind_choice (opens ++ outer) ≡ Some opened → Closed bytes comparison base outer all (close_choice comparison (level ++ base) t) opened
-    choosing nothing q all os t e k h is opened f = let two : None ≡ Some opened = sym stops.choice ∙ f in absurd cc
-    choosing (before_one op m level ms opens p lv) q all os t e k h is opened f =
-        choosing lv factor all (m ∷ os) (term.Unary op m.token.place t) (e ∙ append_assoc ms (m ∷ []) os) (omega arith) (hole-most level) (p os t (loosen bytes factor q os t h k is)) opened f
-    choosing (behind_else w m n tests firsts test first level ms opens x y z a b lv) q all os t e k h is opened f =
+        → all ≡ ms ++ os → q ≤ factor → hole level ≤ q → (is : IsStated bytes q os t) → (is.tail ≡ Taking → ⊥) → is.waiting ≡ true → (opened : List Open) → behind_choice (opens ++ outer) ≡ Some opened
+        → Closed bytes comparison base outer all (close_choice comparison (level ++ base) t) opened
+    choosing nothing q all os t e k h is full waits opened f = let two : None ≡ Some opened = sym stops.choice ∙ f in absurd cc
+    choosing (before_one op m level ms opens p lv) q all os t e k h is full waits opened f =
+        let none : is.waiting ≡ false = none-waits bytes is.far (omega arith) in
+        let two : false ≡ true = sym none ∙ waits in
+        absurd cc
+    choosing (behind_else w m n tests firsts test first level ms opens x y z a b lv) q all os t e k h is full waits opened f =
         comparing lv factor all (w ∷ (tests ++ m ∷ (firsts ++ n ∷ os))) (term.Choice w.token.place test first t) (e ∙ regroup-choice ms tests firsts os w m n) (omega arith) (hole-most level) (omega arith)
-        (chosen w m n tests firsts os test first t x y z a b (loosen bytes 0 q os t (omega arith) k is)) opened f
-    choosing (between op m lefts left count level ms inner opens b low goes l lv) q all os t e k h is opened f =
-        choosing lv (rank op) all (lefts ++ m ∷ os) (term.Binary op m.token.place left t) (e ∙ regroup ms lefts os m) (omega (arith, rank_within op)) low (whole op m lefts os left t q b l k h is) opened
+        (record {
+          tail = tail_of_choice is.tail is.waiting;
+          waiting = false;
+          far = chosen w m n tests firsts os test first t a.tail b.tail is.tail a.waiting b.waiting is.waiting x y z a.far b.far (loosen-far bytes 0 q os t is.tail is.waiting (omega arith) k is.far);
+        }) (full-choice is.tail is.waiting full waits) opened f
+    choosing (between op m lefts left count level ms inner opens b low goes l p lv) q all os t e k h is full waits opened f =
+        let under = whole op m lefts os left t q b l p k h is in
+        choosing lv (rank op) all (lefts ++ m ∷ os) (term.Binary op m.token.place left t) (e ∙ regroup ms lefts os m) (omega (arith, rank_within op)) low
+        (record { tail = is.tail; waiting = under.waits; far = under.far }) full (under.keeps waits) opened
         (continued-choice (rank op) inner opens outer goes ∙ f)
 
   -- all that ends at the end of an expression
-  pub ending : {level : List Frame} {ms : List Marked} {opens : List Open} → Level bytes level ms opens → (q : ℕ) (all os : List Marked) (t : Term) → all ≡ ms ++ os → q ≤ factor → hole level ≤ q → IsRanked bytes q os t
-      → (last : Term) × (close_all (level ++ base) t ≡ (base, last)) × IsRanked bytes 0 all last
-  ending nothing q all os t e k h is = (t, stops.ends t, subst (λ (z : List Marked). IsRanked bytes 0 z t) (sym e) (loosen bytes 0 q os t (omega arith) k is))
+  pub ending : {level : List Frame} {ms : List Marked} {opens : List Open} → Level bytes level ms opens → (q : ℕ) (all os : List Marked) (t : Term) → all ≡ ms ++ os → q ≤ factor → hole level ≤ q → (is : IsStated bytes q os t)
+      → (last : Term) × (close_all (level ++ base) t ≡ (base, last)) × IsStated bytes 0 all last
+  ending nothing q all os t e k h is = (t, stops.ends t, subst (λ (z : List Marked). IsStated bytes 0 z t) (sym e) (loosen bytes 0 q os t (omega arith) k is))
   ending (before_one op m level ms opens p lv) q all os t e k h is =
-      ending lv factor all (m ∷ os) (term.Unary op m.token.place t) (e ∙ append_assoc ms (m ∷ []) os) (omega arith) (hole-most level) (p os t (loosen bytes factor q os t h k is))
+      ending lv factor all (m ∷ os) (term.Unary op m.token.place t) (e ∙ append_assoc ms (m ∷ []) os) (omega arith) (hole-most level)
+      (record { tail = is.tail; waiting = false; far = p os t is.tail is.waiting (loosen-far bytes factor q os t is.tail is.waiting h k is.far) })
   ending (behind_else w m n tests firsts test first level ms opens x y z a b lv) q all os t e k h is =
       ending lv factor all (w ∷ (tests ++ m ∷ (firsts ++ n ∷ os))) (term.Choice w.token.place test first t) (e ∙ regroup-choice ms tests firsts os w m n) (omega arith) (hole-most level)
-      (chosen w m n tests firsts os test first t x y z a b (loosen bytes 0 q os t (omega arith) k is))
-  ending (between op m lefts left count level ms inner opens b low goes l lv) q all os t e k h is =
-      ending lv (rank op) all (lefts ++ m ∷ os) (term.Binary op m.token.place left t) (e ∙ regroup ms lefts os m) (omega (arith, rank_within op)) low (whole op m lefts os left t q b l k h is)
+      (record {
+        tail = tail_of_choice is.tail is.waiting;
+        waiting = false;
+        far = chosen w m n tests firsts os test first t a.tail b.tail is.tail a.waiting b.waiting is.waiting x y z a.far b.far (loosen-far bytes 0 q os t is.tail is.waiting (omega arith) k is.far);
+      })
+  ending (between op m lefts left count level ms inner opens b low goes l p lv) q all os t e k h is =
+      let under = whole op m lefts os left t q b l p k h is in
+      ending lv (rank op) all (lefts ++ m ∷ os) (term.Binary op m.token.place left t) (e ∙ regroup ms lefts os m) (omega (arith, rank_within op)) low (record { tail = is.tail; waiting = under.waits; far = under.far })

@@ -7,13 +7,13 @@ use Rattle.ag_aadl.specs.declared.marked.Marked.{Marked}
 use Rattle.ag_aadl.specs.Marks.{unmarked}
 use Rattle.ag_annex.specs.declared.terms.Binary.{Binary}
 use Rattle.ag_annex.specs.declared.terms.Binary.TheVariants.{Arrow, Implies, Iff, Or, And, Less, AtMost, More, AtLeast, Same, Differs, Plus, Minus, Times, Div, Mod}
-use Rattle.ag_annex.specs.Lines.{GoesOn}
+use Rattle.ag_lines.specs.Lines.{GoesOn, name_ends, next_part, a_body}
 use Rattle.ag_annex.specs.Marks.{arrow_mark, implies_mark, iff_mark, or_mark, and_mark, less_mark, at_most_mark, more_mark, at_least_mark, same_mark, differs_mark, plus_mark, minus_mark, times_mark, div_mark, mod_mark, negative_mark, not_mark, pre_mark, prev_mark, if_mark, then_mark, else_mark, number_mark, true_mark, false_mark, group_mark, operand_mark, call_mark, argument_mark, close_mark, path_mark, part_mark, path_body_mark}
 use Rattle.ag_annex.specs.Nonterminals.{expression, operand, rest, choice, prefix, arithmetic, comparison, logical, primary, path, more_parts, some_body, some_arguments, arguments, more_arguments}
 use Rattle.ag_annex.specs.Operators.{binary_of}
 use Rattle.ag_annex.specs.Terminals as terminal
-use Rattle.ag_annex.proofs.Flat.{IsFlat, flat_choice, flat_prefix, flat_alone, flat_between, IsPrimary, flat_number, flat_truth, flat_falsity, flat_group, flat_pre, flat_prev, flat_name, flat_bare_call, flat_call, AreFlat, flat_last, flat_more}
-use Rattle.ag_annex.proofs.Parsing.{At, left, size, retake, shift, expand, Parsed, Parser}
+use Rattle.ag_lines.proofs.Flat.{IsFlat, flat_choice, flat_prefix, flat_alone, flat_between, IsPrimary, flat_number, flat_truth, flat_falsity, flat_group, flat_pre, flat_prev, flat_name, flat_bare_call, flat_call, AreFlat, flat_last, flat_more}
+use Rattle.ag_lines.proofs.Parsing.{At, left, size, retake, shift, expand, Parsed, Parser}
 
 -- ---- kinds of tokens
 
@@ -71,10 +71,25 @@ joined-arguments : (o n : Marked) {ms : List Marked} → o.mark ≡ call_mark �
 joined-arguments o n x y arguments_none = calling_bare o n x y
 joined-arguments o n x y (arguments_some ms are) = calling_some o n ms x y are
 
--- what goes on a name goes on with more
-goes-joined : (a b : List Marked) → GoesOn a → GoesOn b → GoesOn (a ++ b)
-goes-joined [] b x y = y
-goes-joined (m ∷ a) b x y = (x.0, goes-joined a b x.1 y)
+-- further parts of a name
+data AreParts : List Marked → Type 0 where
+  no_part : AreParts []
+  one_part : (c m : Marked) (ms : List Marked) → c.mark ≡ unmarked → c.terminal ≡ terminal.colons → m.mark ≡ part_mark → AreParts ms → AreParts (c ∷ m ∷ ms)
+
+-- a name's body, or none
+data IsBody : List Marked → Type 0 where
+  no_body : IsBody []
+  one_body : (d m : Marked) → d.mark ≡ unmarked → d.terminal ≡ terminal.dot → m.mark ≡ path_body_mark → IsBody (d ∷ m ∷ [])
+
+-- a body goes on a name by itself
+goes-body : {b : List Marked} → IsBody b → GoesOn b
+goes-body no_body = name_ends
+goes-body (one_body d m x y z) = a_body d m x y z
+
+-- and behind parts
+goes-joined : {a b : List Marked} → AreParts a → IsBody b → GoesOn (a ++ b)
+goes-joined no_part y = goes-body y
+goes-joined {b = b} (one_part c m ms x y z is) w = next_part c m (ms ++ b) x y z (goes-joined is w)
 
 -- ---- operators and names
 
@@ -141,7 +156,7 @@ combining symbols a =
     ]
 
 -- the further parts of a name
-parts-by : (bound : ℕ) → Parser bound more_parts GoesOn
+parts-by : (bound : ℕ) → Parser bound more_parts AreParts
 parts-by zero symbols a h = absurd (omega arith)
 parts-by (suc bound) symbols a h =
     let x = expand more_parts symbols a in
@@ -152,17 +167,17 @@ parts-by (suc bound) symbols a h =
           let p = parts-by bound symbols u.to (omega arith) in
           record {
             front = s.token ∷ u.token ∷ p.front;
-            kind = (inl s.mark, (inr (inl u.mark), p.kind));
+            kind = one_part s.token u.token p.front s.mark s.terminal u.mark p.kind;
             to = p.to;
             parts = x.parts ∙ s.parts ∙ ap (λ z. s.token ∷ z) (u.parts ∙ ap (λ z. u.token ∷ z) p.parts);
             shorter = omega arith;
           }
-      | inr (inl e) ↦ record { front = []; kind = tt; to = retake (x.right ++ symbols) symbols (ap (λ z. z ++ symbols) e) x.to; parts = x.parts; shorter = x.shorter }
+      | inr (inl e) ↦ record { front = []; kind = no_part; to = retake (x.right ++ symbols) symbols (ap (λ z. z ++ symbols) e) x.to; parts = x.parts; shorter = x.shorter }
       | inr (inr n) ↦ absurd n
     ]
 
 -- the name behind its dot
-body-of : (symbols : List Symbol) (a : At (Nonterminal some_body ∷ symbols)) → Parsed GoesOn symbols (left a) (size a)
+body-of : (symbols : List Symbol) (a : At (Nonterminal some_body ∷ symbols)) → Parsed IsBody symbols (left a) (size a)
 body-of symbols a =
     let x = expand some_body symbols a in
     elim x.among [
@@ -171,12 +186,12 @@ body-of symbols a =
           let u = shift terminal.name path_body_mark symbols s.to in
           record {
             front = s.token ∷ u.token ∷ [];
-            kind = (inl s.mark, (inr (inr u.mark), tt));
+            kind = one_body s.token u.token s.mark s.terminal u.mark;
             to = u.to;
             parts = x.parts ∙ s.parts ∙ ap (λ z. s.token ∷ z) u.parts;
             shorter = omega arith;
           }
-      | inr (inl e) ↦ record { front = []; kind = tt; to = retake (x.right ++ symbols) symbols (ap (λ z. z ++ symbols) e) x.to; parts = x.parts; shorter = x.shorter }
+      | inr (inl e) ↦ record { front = []; kind = no_body; to = retake (x.right ++ symbols) symbols (ap (λ z. z ++ symbols) e) x.to; parts = x.parts; shorter = x.shorter }
       | inr (inr n) ↦ absurd n
     ]
 
@@ -191,7 +206,7 @@ naming symbols a =
           let q = body-of symbols p.to in
           record {
             front = s.token ∷ (p.front ++ q.front);
-            kind = (s.token, p.front ++ q.front, refl, s.mark, goes-joined p.front q.front p.kind q.kind);
+            kind = (s.token, p.front ++ q.front, refl, s.mark, goes-joined p.kind q.kind);
             to = q.to;
             parts = x.parts ∙ s.parts ∙ ap (λ z. s.token ∷ z) (p.parts ∙ ap (λ z. p.front ++ z) q.parts ∙ sym (append_assoc p.front q.front (left q.to)));
             shorter = omega arith;
