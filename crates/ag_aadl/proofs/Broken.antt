@@ -14,7 +14,7 @@ use Rattle.ag_aadl.specs.Plainly.{is_border}
 use Rattle.ag_aadl.specs.Rules.{refused_at, is_misnamed, misnamed, names_after, obey_names, is_section, obey_sections, obey_timing, is_nowhere, region_of, watched_after, value_after, all_obeyed, obey, run, run_from}
 use Rattle.ag_aadl.specs.Terminals.{name}
 use Rattle.ag_aadl.specs.Unsupported.{delayed}
-use Rattle.ag_aadl.specs.Words.{same}
+use Rattle.ag_terms.specs.Names.{same}
 use Rattle.ag_aadl.proofs.Shifting.{run-append}
 
 -- a list of marked tokens in three: those that break no rule, the one that breaks it, and the rest

@@ -19,7 +19,7 @@ use Rattle.ag_aadl.specs.Plainly.{is_word, ends_in, has_marked, has_name, is_spo
 use Rattle.ag_aadl.specs.Rules.{refused_at, region_of, is_connection, is_nowhere, is_elsewhere, is_set_name, is_timing, watched_after, value_after, timing_inside, obey_timing, is_misnamed, misnamed, names_after, obey_names, obey_sections, all_obeyed, obey, run, run_from, start, Obeys}
 use Rattle.ag_aadl.specs.Terminals.{name, colons, gives}
 use Rattle.ag_aadl.specs.Unsupported.{delayed}
-use Rattle.ag_aadl.specs.Words.{same}
+use Rattle.ag_terms.specs.Names.{same}
 use Rattle.ag_aadl.proofs.Broken.{broken, breaks, front-obeys, all-ok, all-err, timing-said, name-rule, section-rule}
 
 -- what is known of a timing behind a token, and behind some

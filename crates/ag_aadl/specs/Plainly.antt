@@ -10,7 +10,7 @@ use Rattle.ag_aadl.specs.Marks.{unmarked, package_mark, part_mark, join_mark, it
 use Rattle.ag_aadl.specs.Rules.{refused_at, same_names, is_section, Obeys}
 use Rattle.ag_aadl.specs.Terminals.{name, colons, gives}
 use Rattle.ag_aadl.specs.Unsupported.{delayed}
-use Rattle.ag_aadl.specs.Words.{same}
+use Rattle.ag_terms.specs.Names.{same}
 
 -- a package or a declaration begins at the mark, or a declaration ends
 abbrev pub is_border : ℕ → Bool

@@ -19,7 +19,7 @@ use Rattle.ag_aadl.specs.Marked.{own, first_of}
 use Rattle.ag_aadl.specs.Marks.{unmarked, package_mark, part_mark, join_mark, item_mark, owner_mark, declared_mark, spot_mark, spot_port_mark, end_mark, end_owner_mark, end_name_mark, close_mark, features_mark, flows_mark, properties_mark, subcomponents_mark, connections_mark}
 use Rattle.ag_aadl.specs.Terminals.{name, colons, gives}
 use Rattle.ag_aadl.specs.Unsupported.{delayed}
-use Rattle.ag_aadl.specs.Words.{same}
+use Rattle.ag_terms.specs.Names.{same}
 
 -- the rule is broken at the token
 abbrev pub refused_at : Rule → Token → Refusal

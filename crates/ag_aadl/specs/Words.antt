@@ -1,17 +1,12 @@
 -- Which terminal of the grammar a token is.
-use Rattle.std.specs.Prelude.{ℕ, Bool, List, [], ◌∷◌, map, slice_range, codes, if◌then◌else◌}
-use Rattle.std.specs.Char.{to_ascii_lowercase}
-use Rattle.std.specs.Str.{bytes_eq}
+use Rattle.std.specs.Prelude.{ℕ, List, [], ◌∷◌, map, slice_range, codes, if◌then◌else◌}
 use Rattle.ag_lex.specs.declared.token.Language.TheVariants.{Aadl}
 use Rattle.ag_lex.specs.declared.token.Token.{Token}
 use Rattle.ag_lex.specs.declared.token.TokenKind.{TokenKind}
 use Rattle.ag_lex.specs.declared.token.TokenKind.TheVariants.{Name, Number, Real, Text, Annex, Symbol}
 use Rattle.ag_lex.specs.Tokens.{AreTokens}
+use Rattle.ag_terms.specs.Names.{same}
 use Rattle.ag_aadl.specs.Terminals.{name, package_word, public_word, with_word, end_word, system_word, process_word, thread_word, device_word, abstract_word, data_word, subprogram_word, processor_word, memory_word, bus_word, implementation_word, features_word, flows_word, properties_word, subcomponents_word, connections_word, annex_word, in_word, out_word, event_word, port_word, requires_word, provides_word, parameter_word, none_word, other_word, colons, comma, semicolon, colon, dot, arrow, gives, open_paren, close_paren, open_bracket, close_bracket, open_brace, close_brace, annex_text, other_token}
-
--- whether two texts differ in case at most
-unfoldable pub same : List ℕ → List ℕ → Bool
-same a b = bytes_eq (map to_ascii_lowercase a) (map to_ascii_lowercase b)
 
 -- the reserved words (SAE AS5506), and which of them the grammar knows
 unfoldable pub reserved_words : List (List ℕ × ℕ)

@@ -8,7 +8,7 @@ use ag_lex::Token;
 use std::alloc::Global;
 
 /// A token, which terminal it is, and its mark.
-#[derive(Clone, Copy, Debug, PartialEq, Eq)]
+#[derive(Clone, Copy)]
 pub struct Marked {
     pub mark: u8,
     pub terminal: u8,

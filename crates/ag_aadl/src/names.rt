@@ -16,7 +16,7 @@ use ag_lex::Token;
 use std::alloc::Global;
 
 /// What the parts of a package's name belong to.
-#[derive(Clone, Copy, Debug, PartialEq, Eq)]
+#[derive(Clone, Copy, PartialEq, Eq)]
 pub enum Naming {
     Nothing,
     /// The head of a package.

@@ -1,23 +1,8 @@
 //! Packages as a file declares them (SAE AS5506), in the part that is read.
 
-use ag_base::{List, Place, Text};
+use ag_base::List;
 use ag_lex::Token;
-
-/// A name as it is written, and the place of its first byte. The parts of a package's name stand
-/// apart by `::`, without spaces.
-#[derive(Drop)]
-pub struct Ident {
-    pub text: Text,
-    pub place: Place,
-}
-
-/// A use of a classifier: `package::name.body`.
-#[derive(Drop)]
-pub struct Path {
-    pub package: Option<Ident>,
-    pub name: Ident,
-    pub body: Option<Ident>,
-}
+pub use ag_terms::{Ident, Path};
 
 /// The categories of components that are read.
 #[derive(Clone, Copy, Debug, PartialEq, Eq)]

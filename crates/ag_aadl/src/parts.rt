@@ -90,15 +90,17 @@ pub fn subs_of(alloc: Global, bytes: &[u8], marked: &[Marked]) -> Result<List<Su
 fn end_of(alloc: Global, bytes: &[u8], marked: &[Marked]) -> Result<End, OutOfMemory>
     ensures { IfOk result (λ e. e ≡ end_of bytes.now marked.now) }
 {
+    let first = ident_under(alloc, bytes, SPOT_MARK, marked)?;
     if !has_mark(SPOT_PORT_MARK, marked) {
         return Ok(End {
             sub: None,
-            port: ident_under(alloc, bytes, SPOT_MARK, marked)?,
+            port: first,
         });
     }
+    let port = ident_under(alloc, bytes, SPOT_PORT_MARK, marked)?;
     Ok(End {
-        sub: Some(ident_under(alloc, bytes, SPOT_MARK, marked)?),
-        port: ident_under(alloc, bytes, SPOT_PORT_MARK, marked)?,
+        sub: Some(first),
+        port,
     })
 }
 

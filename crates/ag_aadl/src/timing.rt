@@ -10,7 +10,7 @@ use crate::words::{own_bytes, same};
 use ag_base::{Refusal, Rule, Word};
 
 /// Where a timing is looked for.
-#[derive(Clone, Copy, Debug, PartialEq, Eq)]
+#[derive(Clone, Copy, PartialEq, Eq)]
 pub enum Region {
     Nothing,
     Connection,
@@ -18,7 +18,7 @@ pub enum Region {
 }
 
 /// What the last tokens were, as far as the property's name needs it.
-#[derive(Clone, Copy, Debug, PartialEq, Eq)]
+#[derive(Clone, Copy, PartialEq, Eq)]
 pub enum Watched {
     Nothing,
     /// `Communication_Properties`.
@@ -32,7 +32,7 @@ pub enum Watched {
 }
 
 /// What is known of a timing.
-#[derive(Clone, Copy, Debug, PartialEq, Eq)]
+#[derive(Clone, Copy)]
 pub struct Timing {
     pub region: Region,
     pub watched: Watched,

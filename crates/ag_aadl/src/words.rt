@@ -2,7 +2,8 @@
 ghost use Rattle.std.specs.Prelude.{◌≡◌, map, IfOk};
 ghost use Rattle.ag_aadl.specs.Marked.{own};
 ghost use Rattle.ag_aadl.specs.Terminals.{name, other_token};
-ghost use Rattle.ag_aadl.specs.Words.{same, listed, reserved_words, known_symbols, terminal_of, terminals_of, AreTokensOf};
+ghost use Rattle.ag_aadl.specs.Words.{listed, reserved_words, known_symbols, terminal_of, terminals_of, AreTokensOf};
+ghost use Rattle.ag_terms.specs.Names.{same};
 
 use crate::terminals::{
     ABSTRACT_WORD, ANNEX_TEXT, ANNEX_WORD, ARROW, BUS_WORD, CLOSE_BRACE, CLOSE_BRACKET,

@@ -5,7 +5,7 @@ use Rattle.ag_grammar.specs.declared.grammar.Step.{Step}
 use Rattle.ag_grammar.specs.declared.grammar.Step.TheVariants.{Expand, Shift}
 use Rattle.ag_grammar.specs.Texts.{shifts}
 use Rattle.ag_lex.specs.declared.token.Token.{Token}
-use Rattle.ag_annex.specs.declared.clauses.Site.{Site}
+use Rattle.ag_terms.specs.declared.clauses.Site.{Site}
 use Rattle.ag_annex.specs.declared.nesting.Open.{Open}
 use Rattle.ag_aadl.specs.Marked.{marked}
 use Rattle.ag_annex.specs.Rules.{obey, run_from}

@@ -14,3 +14,8 @@ pub with_next : (value at whole : ℕ) (digits : List ℕ) → decimal_from valu
 with_next value at whole digits same within =
     let again : decimal_from value (get_or digits at 0 ∷ drop (at + 1) digits) ≡ whole = rw (add-one, ← drop-cons digits at 0) same in
     omega (arith, again, at_least (value * 10 + (get_or digits at 0 - 48)) (drop (at + 1) digits))
+
+-- and so it is within what the whole is within
+pub next_within : (value at most : ℕ) (digits : List ℕ) → decimal_from value (drop at digits) ≡ decimal_from 0 digits → at < length digits → decimal_from 0 digits ≤ most →
+    value * 10 + (get_or digits at 0 - 48) ≤ most
+next_within value at most digits same within below = omega (arith, with_next value at (decimal_from 0 digits) digits same within, below)

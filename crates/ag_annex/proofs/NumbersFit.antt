@@ -20,7 +20,8 @@ use Rattle.ag_lex.specs.Answers.{bytes_before, bytes_inside}
 use Rattle.ag_lex.specs.Rules.{KeepsRules, decimal}
 use Rattle.ag_lex.specs.Tokens.{Piece, Space, Comment, Lexeme, AreRead, IsPiece, piece_bytes, tokens_of}
 use Rattle.ag_aadl.specs.Marked.{marked, own}
-use Rattle.ag_aadl.specs.Words.{listed, same}
+use Rattle.ag_aadl.specs.Words.{listed}
+use Rattle.ag_terms.specs.Names.{same}
 use Rattle.ag_annex.specs.Annexes.{AreAnnexTokens}
 use Rattle.ag_annex.specs.Expressions.{AreNumbersFit}
 use Rattle.ag_annex.specs.Grammar.{annex}

@@ -7,8 +7,8 @@ use Rattle.ag_grammar.specs.declared.grammar.Step.{Step}
 use Rattle.ag_grammar.specs.declared.grammar.Step.TheVariants.{Shift}
 use Rattle.ag_grammar.specs.Texts.{IsText, IsFirstBad, Begins, shifts}
 use Rattle.ag_lex.specs.declared.token.Token.{Token}
-use Rattle.ag_annex.specs.declared.clauses.Clause.{Clause}
-use Rattle.ag_annex.specs.declared.clauses.Site.{Site}
+use Rattle.ag_terms.specs.declared.clauses.Clause.{Clause}
+use Rattle.ag_terms.specs.declared.clauses.Site.{Site}
 use Rattle.ag_annex.specs.Annexes.{IsAnnex, BreaksRule, BreaksGrammar, IsFirstWrong, refusal_at}
 use Rattle.ag_annex.specs.Grammar.{annex}
 use Rattle.ag_aadl.specs.Marked.{marked}

@@ -15,8 +15,8 @@ use Rattle.ag_lex.specs.Answers.{AreKept, IsAnnexOf, bytes_before, bytes_inside}
 use Rattle.ag_lex.specs.Places.{place_of}
 use Rattle.ag_aadl.specs.Marked.{marked, own, first_of}
 use Rattle.ag_aadl.specs.Rules.{refused_at}
-use Rattle.ag_annex.specs.declared.clauses.Clause.{Clause}
-use Rattle.ag_annex.specs.declared.clauses.Site.{Site}
+use Rattle.ag_terms.specs.declared.clauses.Clause.{Clause}
+use Rattle.ag_terms.specs.declared.clauses.Site.{Site}
 use Rattle.ag_annex.specs.Clauses.{clauses_of}
 use Rattle.ag_annex.specs.Grammar.{annex}
 use Rattle.ag_annex.specs.Rules.{Obeys, run}

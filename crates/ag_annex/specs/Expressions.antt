@@ -5,7 +5,7 @@ use Rattle.ag_base.specs.declared.place.Place.{Place}
 use Rattle.ag_lex.specs.declared.token.Token.{Token}
 use Rattle.ag_lex.specs.Rules.{decimal}
 use Rattle.ag_aadl.specs.declared.marked.Marked.{Marked}
-use Rattle.ag_aadl.specs.declared.packages.Path.{Path}
+use Rattle.ag_terms.specs.declared.names.Path.{Path}
 use Rattle.ag_aadl.specs.Marked.{own}
 use Rattle.ag_aadl.specs.Meaning.{path_of}
 use Rattle.ag_annex.specs.declared.frames.Frame.{Frame}
@@ -13,11 +13,11 @@ use Rattle.ag_annex.specs.declared.frames.Frame.TheVariants as frame
 use Rattle.ag_annex.specs.declared.frames.Operand.{Operand}
 use Rattle.ag_annex.specs.declared.frames.Operand.TheVariants.{Nothing, Name, Whole}
 use Rattle.ag_annex.specs.declared.frames.Reading.{Reading}
-use Rattle.ag_annex.specs.declared.terms.Binary.{Binary}
-use Rattle.ag_annex.specs.declared.terms.Binary.TheVariants.{Arrow}
-use Rattle.ag_annex.specs.declared.terms.Term.{Term, Number, Truth, Named}
-use Rattle.ag_annex.specs.declared.terms.Term.TheViews as term
-use Rattle.ag_annex.specs.declared.terms.Unary.TheVariants as unary
+use Rattle.ag_terms.specs.declared.terms.Binary.{Binary}
+use Rattle.ag_terms.specs.declared.terms.Binary.TheVariants.{Arrow}
+use Rattle.ag_terms.specs.declared.terms.Term.{Term, Number, Truth, Named}
+use Rattle.ag_terms.specs.declared.terms.Term.TheViews as term
+use Rattle.ag_terms.specs.declared.terms.Unary.TheVariants as unary
 use Rattle.ag_annex.specs.Marks.{negative_mark, not_mark, pre_mark, prev_mark, if_mark, then_mark, else_mark, number_mark, true_mark, false_mark, group_mark, call_mark, argument_mark, close_mark, path_mark, part_mark, path_body_mark}
 use Rattle.ag_annex.specs.Operators.{binary_of, rank, comparison, last_right}
 
@@ -111,13 +111,18 @@ abbrev pub behind_yes : List Frame × Term → Reading
 behind_yes (frame.Yes place test ∷ frames, t) = record { frames = frame.No place test t ∷ frames; operand = Nothing }
 behind_yes (frames, t) = record { frames = frames; operand = Nothing }
 
+-- the name of a node before the `(` of a call
+abbrev pub called : List ℕ → Operand → Option Path
+called bytes Nothing = None
+called bytes (Name parts bodies) = path_of bytes parts bodies
+called bytes (Whole t) = None
+
 -- behind the `(` of a call: the name before it is that of the node
 abbrev pub behind_name : List ℕ → List Frame → Operand → Reading
-behind_name bytes frames (Name parts bodies) = elim (path_of bytes parts bodies) [
+behind_name bytes frames o = elim (called bytes o) [
   | None ↦ record { frames = frames; operand = Nothing }
   | Some path ↦ record { frames = frame.Call path [] ∷ frames; operand = Nothing }
 ]
-behind_name bytes frames o = record { frames = frames; operand = Nothing }
 
 -- behind a name's further part, and behind the name after its dot
 abbrev pub with_part : Operand → Token → Operand

@@ -4,8 +4,8 @@ use Rattle.ag_base.specs.declared.place.Refusal.{Refusal}
 use Rattle.ag_base.specs.declared.place.Rule.TheVariants.{TooDeep, Expected, Misplaced}
 use Rattle.ag_aadl.specs.declared.marked.Marked.{Marked}
 use Rattle.ag_aadl.specs.Rules.{refused_at}
-use Rattle.ag_annex.specs.declared.clauses.Site.{Site}
-use Rattle.ag_annex.specs.declared.clauses.Site.TheVariants.{Library, Frame, Body}
+use Rattle.ag_terms.specs.declared.clauses.Site.{Site}
+use Rattle.ag_terms.specs.declared.clauses.Site.TheVariants.{Library, Frame, Body}
 use Rattle.ag_annex.specs.declared.nesting.Open.{Open}
 use Rattle.ag_annex.specs.Marks.{assume_mark, guarantee_mark, lemma_mark, eq_mark, assign_mark}
 use Rattle.ag_annex.specs.Nesting.{behind, levels, most_levels}

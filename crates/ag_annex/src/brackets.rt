@@ -2,14 +2,14 @@
 ghost use Rattle.std.specs.Prelude.{◌≡◌, ◌∷◌, IfOk};
 ghost use Rattle.ag_annex.specs.declared.frames.Operand.{Operand};
 ghost use Rattle.ag_annex.specs.declared.frames.Operand.TheVariants.{Nothing, Whole};
-ghost use Rattle.ag_annex.specs.Expressions.{is_nothing, with_last, behind_close, behind_comma, behind_test, behind_yes, behind_name};
+ghost use Rattle.ag_annex.specs.Expressions.{is_nothing, with_last, behind_close, behind_comma, behind_test, behind_yes, called, behind_name};
 
 use crate::closing::{binary, unary};
 use crate::frames::{Frame, Operand, Reading};
 use crate::stack::Stack;
-use crate::terms::{Binary, Term, Unary};
 use ag_aadl::path_of;
 use ag_base::OutOfMemory;
+use ag_terms::{Binary, Path, Term, Unary};
 use sqlite_items::Items;
 use std::alloc::Global;
 
@@ -147,27 +147,33 @@ pub fn behind_yes(frames: Stack<Frame>, last: Term) -> Result<Reading, OutOfMemo
     }
 }
 
+// The name of a node before the `(` of a call.
+fn called(alloc: Global, bytes: &[u8], operand: &Operand) -> Result<Option<Path>, OutOfMemory>
+    ensures { IfOk result (λ path. path ≡ called bytes.now operand.now) }
+{
+    match operand {
+        Operand::Name { parts, bodies } => {
+            let path = path_of(alloc, bytes, parts.as_slice(), bodies.as_slice())?;
+            Ok(path)
+        }
+        Operand::Nothing | Operand::Whole(_) => Ok(None),
+    }
+}
+
 /// Behind the `(` of a call: the name before it is that of the node.
 pub fn behind_name(
     alloc: Global,
     bytes: &[u8],
     frames: Stack<Frame>,
-    operand: Operand,
+    operand: &Operand,
 ) -> Result<Reading, OutOfMemory>
-    ensures { IfOk result (λ r. r ≡ behind_name bytes.now frames operand) }
+    ensures { IfOk result (λ r. r ≡ behind_name bytes.now frames operand.now) }
 {
-    let Operand::Name { parts, bodies } = operand else {
-        return Ok(idle(frames));
-    };
-    let path = path_of(alloc, bytes, parts.as_slice(), bodies.as_slice())?;
-    match path {
+    match called(alloc, bytes, operand)? {
         None => Ok(idle(frames)),
-        Some(path) => waiting(
-            frames,
-            Frame::Call {
-                path,
-                args: Items::new(alloc),
-            },
-        ),
+        Some(path) => {
+            let args = Items::new(alloc);
+            waiting(frames, Frame::Call { path, args })
+        }
     }
 }

@@ -1,13 +1,13 @@
 //! What ends with an operand: operators before it, operators that bind tighter, and choices.
 ghost use Rattle.std.specs.Prelude.{◌≡◌, IfOk};
-ghost use Rattle.ag_annex.specs.declared.terms.Term.TheViews as term;
+ghost use Rattle.ag_terms.specs.declared.terms.Term.TheViews as term;
 ghost use Rattle.ag_annex.specs.Expressions.{ends_before, close_before, close_all};
 
 use crate::frames::Frame;
 use crate::operators::{COMPARISON, LAST_RIGHT, rank};
 use crate::stack::Stack;
-use crate::terms::{Binary, Term, Unary};
 use ag_base::{OutOfMemory, Place};
+use ag_terms::{Binary, Term, Unary};
 use sqlite_items::Boxed;
 use std::alloc::Global;
 
@@ -49,12 +49,16 @@ pub fn binary(
     })
 }
 
-// An `if` with its three operands.
-fn choice(alloc: Global, place: Place, test: Term, yes: Term, no: Term) -> Result<Term, OutOfMemory>
+// An `if` of which the last operand isn't on the heap yet.
+fn last_boxed(
+    alloc: Global,
+    place: Place,
+    test: Boxed<Term>,
+    yes: Boxed<Term>,
+    no: Term,
+) -> Result<Term, OutOfMemory>
     ensures { IfOk result (λ t. t ≡ term.Choice place test yes no) }
 {
-    let test = boxed(alloc, test)?;
-    let yes = boxed(alloc, yes)?;
     let no = boxed(alloc, no)?;
     Ok(Term::Choice {
         place,
@@ -62,6 +66,28 @@ fn choice(alloc: Global, place: Place, test: Term, yes: Term, no: Term) -> Resul
         yes,
         no,
     })
+}
+
+// An `if` of which the first operand alone is on the heap.
+fn rest_boxed(
+    alloc: Global,
+    place: Place,
+    test: Boxed<Term>,
+    yes: Term,
+    no: Term,
+) -> Result<Term, OutOfMemory>
+    ensures { IfOk result (λ t. t ≡ term.Choice place test yes no) }
+{
+    let yes = boxed(alloc, yes)?;
+    last_boxed(alloc, place, test, yes, no)
+}
+
+// An `if` with its three operands.
+fn choice(alloc: Global, place: Place, test: Term, yes: Term, no: Term) -> Result<Term, OutOfMemory>
+    ensures { IfOk result (λ t. t ≡ term.Choice place test yes no) }
+{
+    let test = boxed(alloc, test)?;
+    rest_boxed(alloc, place, test, yes, no)
 }
 
 /// All that ends with `last` as its last operand, before a `)`, a `,`, a `then`, an `else`, or the expression's end.

@@ -1,10 +1,9 @@
 //! What waits for operands behind a token of an expression.
 
 use crate::stack::Stack;
-use crate::terms::{Binary, Term, Unary};
-use ag_aadl::packages::Path;
 use ag_base::{List, Place};
 use ag_lex::Token;
+use ag_terms::{Binary, Path, Term, Unary};
 use sqlite_items::Items;
 
 /// What waits for an operand.

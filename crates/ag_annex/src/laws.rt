@@ -3,8 +3,8 @@ ghost use Rattle.std.specs.Prelude.{ℕ, List, ◌⊎◌};
 ghost use Rattle.ag_base.specs.declared.place.Refusal.{Refusal};
 ghost use Rattle.ag_grammar.specs.Founded.{IsFounded};
 ghost use Rattle.ag_lex.specs.declared.token.Token.{Token};
-ghost use Rattle.ag_annex.specs.declared.clauses.Clause.{Clause};
-ghost use Rattle.ag_annex.specs.declared.clauses.Site.{Site};
+ghost use Rattle.ag_terms.specs.declared.clauses.Clause.{Clause};
+ghost use Rattle.ag_terms.specs.declared.clauses.Site.{Site};
 ghost use Rattle.ag_annex.specs.Annexes.{IsAnnex, IsFirstWrong};
 ghost use Rattle.ag_annex.specs.Grammar.{annex};
 

@@ -5,6 +5,7 @@
 #![tactic(auto)]
 
 ghost use Rattle.std.specs.Prelude.{◌≡◌, ◌<◌, ◌^◌, ℕ, List, length, IfOk, Result, Err};
+ghost use Rattle.std.specs.Str.{IsUtf8};
 ghost use Rattle.ag_base.specs.declared.place.Refusal.{Refusal};
 ghost use Rattle.ag_base.specs.declared.place.Refused.TheVariants.{Model};
 ghost use Rattle.ag_grammar.specs.declared.grammar.Step.{Step};
@@ -12,14 +13,13 @@ ghost use Rattle.ag_grammar.specs.Deterministic.{IsLl1};
 ghost use Rattle.ag_grammar.specs.Texts.{IsReading, AreForced};
 ghost use Rattle.ag_lex.specs.declared.token.Token.{Token};
 ghost use Rattle.ag_aadl.specs.Marked.{marked};
-ghost use Rattle.ag_annex.specs.declared.clauses.Clause.{Clause};
-ghost use Rattle.ag_annex.specs.declared.clauses.Site.{Site};
+ghost use Rattle.ag_terms.specs.declared.clauses.Clause.{Clause};
+ghost use Rattle.ag_terms.specs.declared.clauses.Site.{Site};
 ghost use Rattle.ag_annex.specs.Annexes.{AreAnnexTokens, IsAnnex, IsFirstWrong, IsReadUnlessMemory, IsRefusedUnlessMemory};
 ghost use Rattle.ag_annex.specs.Grammar.{annex};
 ghost use Rattle.ag_annex.specs.Words.{terminals_of};
 
 mod brackets;
-pub mod clauses;
 mod closing;
 mod ends;
 mod expressions;
@@ -41,7 +41,6 @@ mod spans;
 pub mod stack;
 mod statements;
 mod terminals;
-pub mod terms;
 mod unsupported;
 mod words;
 
@@ -49,14 +48,13 @@ use ag_aadl::marked::{Marked, marked_tokens};
 use ag_base::{List, OutOfMemory, Refused};
 use ag_grammar::{one_derivation, one_place, read};
 use ag_lex::Token;
-pub use clauses::{Clause, Equal, Labelled, NodeDef, Site, Ty, Var};
+pub use ag_terms::{Binary, Clause, Equal, Labelled, NodeDef, Site, Term, Ty, Unary, Var};
 use ends::refusal_at;
 pub use laws::{annex_is_founded, one_of_the_two};
 use meaning::clauses_of;
 pub use page::Clauses;
 use rules::run;
 use std::alloc::Global;
-pub use terms::{Binary, Term, Unary};
 pub use unsupported::word_text;
 use words::terminals;
 
@@ -120,6 +118,8 @@ pub fn read_clauses(
     site: Site,
 ) -> Result<List<Clause>, Refused>
     requires short { length bytes.now < 2 ^ 31 }
+    // The file is UTF-8, and so are its names and labels.
+    requires text { IsUtf8 bytes.now }
     requires tokens { AreAnnexTokens bytes.now tokens.now }
     // The tokens are a text of the grammar that breaks no rule, and these are its clauses.
     ensures ok { IfOk result (λ clauses. IsAnnex bytes.now tokens.now site clauses) }

@@ -5,7 +5,6 @@ ghost use Rattle.ag_annex.specs.Clauses.{value_of, some_value, type_of, var_of, 
 ghost use Rattle.ag_annex.specs.Expressions.{AreNumbersFit};
 ghost use Rattle.ag_annex.specs.Marks.{target_mark};
 
-use crate::clauses::{Clause, Equal, Labelled, NodeDef, Ty, Var};
 use crate::marks::{
     ASSIGN_MARK, ASSUME_MARK, BOOL_MARK, CONST_MARK, END_MARK, EQ_MARK, GUARANTEE_MARK, LABEL_MARK,
     LEMMA_MARK, LET_MARK, LOCALS_MARK, NODE_MARK, NODE_NAME_MARK, RETURNS_MARK, TARGET_MARK,
@@ -13,12 +12,12 @@ use crate::marks::{
 };
 use crate::reading::term_of;
 use crate::spans::{after, first_mark, part_under, up_to};
-use crate::terms::Term;
 use ag_aadl::find::{first_under, has_mark, segments};
 use ag_aadl::marked::Marked;
 use ag_aadl::{ident_under, text_of};
 use ag_base::{List, OutOfMemory};
 use ag_lex::Token;
+use ag_terms::{Clause, Equal, Labelled, NodeDef, Term, Ty, Var};
 use std::alloc::Global;
 
 // The expression behind the `:` or `=`.

@@ -1,7 +1,7 @@
 //! What is open behind a token of an expression.
 
 /// What a token of an expression opened, and what is to come ends.
-#[derive(Clone, Copy, Debug, PartialEq, Eq)]
+#[derive(Clone, Copy)]
 pub enum Open {
     /// The `(` of a group, of `pre`, of `prev` or of a call, up to its `)`.
     Bracket,

@@ -3,11 +3,10 @@ ghost use Rattle.std.specs.Prelude.{◌≡◌, IfOk};
 ghost use Rattle.ag_annex.specs.Expressions.{no_term, named, operand_term, is_nothing, with_part, with_body};
 
 use crate::frames::Operand;
-use crate::terms::Term;
-use ag_aadl::packages::Path;
 use ag_aadl::path_of;
 use ag_base::{OutOfMemory, Place};
 use ag_lex::Token;
+use ag_terms::{Path, Term};
 use std::alloc::Global;
 
 /// Whether there is no operand.

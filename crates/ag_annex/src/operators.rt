@@ -7,7 +7,7 @@ use crate::marks::{
     IMPLIES_MARK, LESS_MARK, MINUS_MARK, MOD_MARK, MORE_MARK, OR_MARK, PLUS_MARK, SAME_MARK,
     TIMES_MARK,
 };
-use crate::terms::Binary;
+use ag_terms::Binary;
 
 /// The rank of comparisons, which don't chain.
 pub const COMPARISON: u8 = 5;

@@ -3,7 +3,7 @@ ghost use Rattle.std.specs.Prelude.{◌≡◌, ◌≤◌, ◌^◌, ◌∷◌, []
 ghost use Rattle.ag_lex.specs.Rules.{decimal};
 ghost use Rattle.ag_aadl.specs.Marked.{own};
 ghost use Rattle.ag_annex.specs.declared.frames.Operand.TheVariants.{Name, Whole};
-ghost use Rattle.ag_annex.specs.declared.terms.Term.{Number, Truth};
+ghost use Rattle.ag_terms.specs.declared.terms.Term.{Number, Truth};
 ghost use Rattle.ag_annex.specs.Expressions.{operand_term, with_part, with_body, behind_infix, behind_close, behind_comma, behind_test, behind_yes, behind_name, behind_operand, behind_opening, behind_other, close_before, close_all, read_token, finished, term_of, IsNumberFit, AreNumbersFit};
 ghost use Rattle.ag_annex.specs.Operators.{rank};
 
@@ -21,11 +21,11 @@ use crate::numbers::number_of;
 use crate::operands::{is_nothing, operand_term, with_body, with_part};
 use crate::operators::{binary_of, rank};
 use crate::stack::Stack;
-use crate::terms::{Binary, Term, Unary};
 use ag_aadl::marked::Marked;
 use ag_aadl::own_bytes;
 use ag_base::{List, OutOfMemory};
 use ag_lex::Token;
+use ag_terms::{Binary, Term, Unary};
 use std::alloc::Global;
 
 // What still waits where all that can end does, as before a `)`, a `,`, a `then`, an `else`, or the expression's end,
@@ -193,7 +193,7 @@ fn at_call(alloc: Global, bytes: &[u8], reading: Reading) -> Result<Reading, Out
     ensures { IfOk result (λ r. r ≡ behind_name bytes.now reading.frames reading.operand) }
 {
     let Reading { frames, operand } = reading;
-    behind_name(alloc, bytes, frames, operand)
+    behind_name(alloc, bytes, frames, &operand)
 }
 
 // Behind a token that something waits for operands with.

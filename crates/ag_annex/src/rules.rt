@@ -6,11 +6,11 @@ ghost use Rattle.ag_aadl.specs.Rules.{refused_at};
 ghost use Rattle.ag_annex.specs.Nesting.{levels};
 ghost use Rattle.ag_annex.specs.Rules.{is_misplaced, obey, run};
 
-use crate::clauses::Site;
 use crate::marks::{ASSIGN_MARK, ASSUME_MARK, EQ_MARK, GUARANTEE_MARK, LEMMA_MARK};
 use crate::nest::Nest;
 use ag_aadl::marked::Marked;
 use ag_base::{Refusal, Refused, Rule};
+use ag_terms::Site;
 use std::alloc::Global;
 
 // Whether the first word of a clause that has no place in such an annex has the mark.

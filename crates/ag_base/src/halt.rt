@@ -18,6 +18,7 @@ pub trait Halt {
     fn poll(&mut self) -> bool
         ensures never_falls { yeses self.old ≤ yeses self.new }
         ensures yes { IsTrue result → Rose (yeses self.old) (yeses self.new) }
+        ensures kept { result ≡ false → yeses self.new ≡ yeses self.old }
         ensures follows { follows self.old self.new };
 
     /// Each state follows itself.
@@ -41,6 +42,7 @@ impl Halt for Never {
     fn poll(&mut self) -> bool
         ensures never_falls { 0 ≤ 0 }
         ensures yes { IsTrue result → Rose 0 0 }
+        ensures kept { result ≡ false → ◌≡◌ {A = ℕ} 0 0 }
         ensures follows { Unit {0} }
         ensures no { result ≡ false }
     {
@@ -89,6 +91,7 @@ impl Halt for AfterPolls {
     fn poll(&mut self) -> bool
         ensures never_falls { self.old.yeses ≤ self.new.yeses }
         ensures yes { IsTrue result → Rose self.old.yeses self.new.yeses }
+        ensures kept { result ≡ false → self.new.yeses ≡ self.old.yeses }
         ensures follows { IsLater self.old self.new }
         // It says yes exactly where no noes are left.
         ensures exactly { result ≡ (self.old.left == 0) }

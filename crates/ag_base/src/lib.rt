@@ -19,14 +19,10 @@ pub use limits::Limits;
 pub use list::{Bytes, List};
 pub use memory::{MemFolder, MemSink, MemSource};
 pub use outside::{Failed, File, Folder, FolderFault, MOST_FILE_BYTES, Sink, Source};
-pub use place::{Place, Refusal, Refused, Rule, Word};
+pub use place::{Place, Refusal, Refused, Rule, Word, refusals_are_ordered};
 pub use status::Status;
-pub use text::Text;
-
-#[cfg(test)]
-mod tests;
-
 use std::alloc::{AllocError, AllocFailed};
+pub use text::Text;
 
 /// Memory was wanting. It is the one answer that no contract forbids.
 #[derive(Clone, Copy, Debug, PartialEq, Eq)]

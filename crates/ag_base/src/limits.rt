@@ -3,7 +3,7 @@ ghost use Rattle.std.specs.Prelude.{◌≡◌, ◌≤◌, ◌↔◌, IsSome, IfS
 ghost use Rattle.ag_base.specs.Range.{AreInRange};
 
 /// How far a proof may go. Each number is in its range.
-#[derive(Clone, Copy, Debug)]
+#[derive(Clone, Copy)]
 pub struct Limits {
     /// The greatest number of steps of a k-induction, 1 to 30.
     pub depth: u32,

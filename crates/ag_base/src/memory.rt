@@ -1,5 +1,5 @@
 //! The outside in memory, whose calls fail where it was asked that they do.
-ghost use Rattle.std.specs.Prelude.{◌≡◌, ◌<◌, ◌≤◌, ◌++◌, ◌==◌, [], true, Some, length, take, min, max, IfOk, OnErr, IsErrOf, is_ok, not, if◌then◌else◌, ◌↔◌, ◌+◌};
+ghost use Rattle.std.specs.Prelude.{◌≡◌, ◌<◌, ◌≤◌, ◌++◌, ◌==◌, [], true, Some, length, take, min, max, IfOk, OnOk, OnErr, IsErrOf, ◌⊎◌, is_ok, not, if◌then◌else◌, ◌↔◌, ◌+◌};
 ghost use Rattle.std.specs.Option.{option_copied};
 ghost use Rattle.std.specs.List.{list_any};
 ghost use Rattle.ag_base.specs.Outside.{Rose, Takes, AnswersFile};
@@ -85,6 +85,7 @@ impl Source for MemSource {
         ensures end { IfOk result (λ n. 0 < length into.new → n ≡ 0 → self.old.left ≡ []) }
         ensures never_falls { self.old.faults ≤ self.new.faults }
         ensures failed { OnErr result (Rose self.old.faults self.new.faults × (Some self.new.left ≡ Some self.old.left)) }
+        ensures unfaulted { OnOk result (self.new.faults ≡ self.old.faults) }
         // The numbered calls fail, and no others; the others give as much as they may.
         ensures exactly { is_ok result ≡ not (fails_next self.old.failing self.old.calls) }
         ensures given { IfOk result (λ n. n ≡ given self.old (length into.old)) }
@@ -160,6 +161,7 @@ impl Sink for MemSink {
         ensures bytes { IfOk result (λ n. Some self.new.written ≡ Some (self.old.written ++ take n from.now)) }
         ensures never_falls { self.old.faults ≤ self.new.faults }
         ensures failed { OnErr result (Rose self.old.faults self.new.faults × (Some self.new.written ≡ Some self.old.written)) }
+        ensures unfaulted { OnOk result (self.new.faults ≡ self.old.faults) }
         // It takes all that there is room for, and fails where there is none or the call is numbered.
         ensures exactly { is_ok result ≡ not (refuses self.old from.now) }
         ensures taken { IfOk result (λ n. (n ≡ min self.old.room (length from.now)) × (self.new.room + n ≡ self.old.room)) }
@@ -238,6 +240,7 @@ impl Folder for MemFolder {
         ensures short { IfOk result (λ bytes. length bytes ≤ 4194304) }
         ensures never_falls { self.old.faults ≤ self.new.faults }
         ensures failed { IsErrOf result FailedFolder → Rose self.old.faults self.new.faults }
+        ensures unfaulted { IsErrOf result FailedFolder ⊎ (self.new.faults ≡ self.old.faults) }
         // The numbered calls fail, and no others.
         ensures exactly { IsErrOf result FailedFolder ↔ (fails_next self.old.failing self.old.calls ≡ true) }
         ensures calls { self.new.calls ≡ next_call self.old.calls }

@@ -2,12 +2,13 @@
 //!
 //! A contract can't say what a file or a terminal gives. So each trait says of an implementor
 //! what it tells of its content, or that it tells nothing, and how often it has failed.
-ghost use Rattle.std.specs.Prelude.{◌≡◌, ◌<◌, ◌≤◌, ◌++◌, [], ℕ, List, Option, Some, length, take, IfSome, IfOk, OnErr, IsErrOf};
+ghost use Rattle.std.specs.Prelude.{◌≡◌, ◌<◌, ◌≤◌, ◌++◌, [], ℕ, List, Option, Some, length, take, IfSome, IfOk, OnOk, OnErr, IsErrOf, ◌⊎◌};
 ghost use Rattle.ag_base.specs.Outside.{Rose, Takes, AnswersFile};
 ghost use Rattle.ag_base.specs.declared.outside.FolderFault.TheVariants.{Failed as FailedFolder};
 
 use crate::list::Bytes;
 use crate::text::Text;
+use thiserror::Error;
 
 /// The most bytes of one file.
 pub const MOST_FILE_BYTES: usize = 4_194_304;
@@ -31,7 +32,8 @@ pub trait Source {
         ensures bytes { IfSome (left self.old) (λ bytes. IfOk result (λ n. Takes bytes (take n into.new) (left self.new))) }
         ensures end { IfSome (left self.old) (λ bytes. IfOk result (λ n. 0 < length into.new → n ≡ 0 → bytes ≡ [])) }
         ensures never_falls { faults self.old ≤ faults self.new }
-        ensures failed { OnErr result (Rose (faults self.old) (faults self.new) × (left self.new ≡ left self.old)) };
+        ensures failed { OnErr result (Rose (faults self.old) (faults self.new) × (left self.new ≡ left self.old)) }
+        ensures unfaulted { OnOk result (faults self.new ≡ faults self.old) };
 }
 
 /// Where bytes go, one after another.
@@ -49,7 +51,8 @@ pub trait Sink {
         ensures some { IfOk result (λ n. 0 < length from.now → 0 < n) }
         ensures bytes { IfSome (written self.old) (λ bytes. IfOk result (λ n. written self.new ≡ Some (bytes ++ take n from.now))) }
         ensures never_falls { faults self.old ≤ faults self.new }
-        ensures failed { OnErr result (Rose (faults self.old) (faults self.new) × (written self.new ≡ written self.old)) };
+        ensures failed { OnErr result (Rose (faults self.old) (faults self.new) × (written self.new ≡ written self.old)) }
+        ensures unfaulted { OnOk result (faults self.new ≡ faults self.old) };
 }
 
 /// A file by its name.
@@ -60,12 +63,16 @@ pub struct File {
 }
 
 /// Why a folder gives no file.
-#[derive(Clone, Copy, Debug, PartialEq, Eq)]
+#[derive(Clone, Copy, Debug, Drop, PartialEq, Eq, Error)]
 pub enum FolderFault {
+    #[error("no such file")]
     NotThere,
     /// The file has more than 4,194,304 bytes.
+    #[error("the file has more than {MOST_FILE_BYTES} bytes")]
     TooLong,
+    #[error("reading failed")]
     Failed,
+    #[error("memory was wanting")]
     OutOfMemory,
 }
 
@@ -83,5 +90,6 @@ pub trait Folder {
         ensures file { IfSome (files self.old) (λ file. AnswersFile (file name.now) result) }
         ensures short { IfOk result (λ bytes. length bytes ≤ 4194304) }
         ensures never_falls { faults self.old ≤ faults self.new }
-        ensures failed { IsErrOf result FailedFolder → Rose (faults self.old) (faults self.new) };
+        ensures failed { IsErrOf result FailedFolder → Rose (faults self.old) (faults self.new) }
+        ensures unfaulted { IsErrOf result FailedFolder ⊎ (faults self.new ≡ faults self.old) };
 }

@@ -4,7 +4,7 @@
 pub const END: u8 = 255;
 
 /// What the right side of a production consists of.
-#[derive(Clone, Copy, Debug, PartialEq, Eq)]
+#[derive(Clone, Copy)]
 pub enum Symbol {
     /// A terminal, under a mark by which rules on the derivation know it again.
     Terminal(u8, u8),
@@ -13,7 +13,7 @@ pub enum Symbol {
 }
 
 /// A way to write a nonterminal.
-#[derive(Clone, Copy, Debug)]
+#[derive(Clone, Copy)]
 pub struct Production<'a> {
     /// What the derivation's steps call it. The productions of a nonterminal have different names.
     pub name: u16,

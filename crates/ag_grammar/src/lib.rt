@@ -32,6 +32,3 @@ pub fn one_place()
 pub fn one_of_the_two()
     ensures { (g : PlainGrammar) → IsFounded g → (xs : List ℕ) → (steps : List Step) × (bad : Option ℕ) × IsReading g xs steps bad × AreForced g xs steps }
 {}
-
-#[cfg(test)]
-mod tests;

@@ -11,6 +11,3 @@ pub mod search;
 pub use answer::Circles;
 pub use graph::Graph;
 pub use search::circles;
-
-#[cfg(test)]
-mod tests;

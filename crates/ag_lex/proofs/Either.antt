@@ -19,7 +19,8 @@ use Rattle.ag_lex.specs.Characters.{is_space, is_line_byte, is_word_byte, is_num
 use Rattle.ag_lex.specs.Places.{place_of}
 use Rattle.ag_lex.specs.Spelling.{long_symbols}
 use Rattle.ag_lex.specs.Tokens.{Piece, piece_bytes, AreRead, tokens_of}
-use Rattle.ag_lex.specs.Rules.{Breaks, IsNoText, IsBrokenAt, IsFirstBroken, AreFine, decimal, order_of}
+use Rattle.ag_base.specs.Rules.{rank}
+use Rattle.ag_lex.specs.Rules.{Breaks, IsNoText, IsBrokenAt, IsFirstBroken, AreFine, decimal}
 use Rattle.ag_lex.specs.Answers.{AreKept}
 use Rattle.ag_lex.specs.Scanning.{IsFound, IsWide, closes_at, first_front, fraction_at}
 use Rattle.ag_lex.proofs.Founds.{piece_of, token_of_kind, space_is, comment_is, text_is, text_open, annex_is, annex_open, name_is, name_long, real_is, number_is, number_wide, symbol_is, bad_is}
@@ -168,7 +169,7 @@ broken_first l file before text n rule broken first later =
         | inl no_text ↦ inl (later m other no_text)
         | inr there ↦ elim (first m other there) [
           | inl ahead ↦ inl ahead
-          | inr same ↦ let orders : order_of rule ≡ order_of other = ap order_of same.1 in inr (same.0, omega arith)
+          | inr same ↦ let orders : rank rule ≡ rank other = ap rank same.1 in inr (same.0, omega arith)
         ]
       ];
     }

@@ -11,3 +11,4 @@ pub mod Whole
 pub mod Annexes
 pub mod Either
 pub mod Made
+pub mod FileText

@@ -18,7 +18,8 @@ use Rattle.ag_lex.specs.declared.token.Language.TheVariants.{Aadl, Agree}
 use Rattle.ag_lex.specs.declared.token.Token.{Token}
 use Rattle.ag_lex.specs.Places.{place_of}
 use Rattle.ag_lex.specs.Tokens.{AreTokens, tokens_of}
-use Rattle.ag_lex.specs.Rules.{Breaks, IsNoText, IsBrokenAt, IsBroken, IsFirstBroken, order_of}
+use Rattle.ag_base.specs.Rules.{rank}
+use Rattle.ag_lex.specs.Rules.{Breaks, IsNoText, IsBrokenAt, IsBroken, IsFirstBroken}
 use Rattle.ag_lex.specs.Scanning.{IsFirstFault, IsScanned, IsEndOfText, earlier_of}
 use Rattle.ag_lex.specs.Answers.{AreKept, bytes_before, bytes_inside}
 use Rattle.ag_lex.proofs.OnePiece.{one_list}
@@ -55,7 +56,7 @@ fault_first l start bytes fault f later =
         | inl no_text ↦ inl (later m rule no_text)
         | inr there ↦ elim (f.first m rule there) [
           | inl before ↦ inl before
-          | inr same ↦ let one : order_of fault.refusal.rule ≡ order_of rule = ap order_of same.1 in inr (same.0, omega arith)
+          | inr same ↦ let one : rank fault.refusal.rule ≡ rank rule = ap rank same.1 in inr (same.0, omega arith)
         ]
       ];
     }
@@ -63,7 +64,7 @@ fault_first l start bytes fault f later =
 -- the end of the text in UTF-8, where no rule is broken before
 pub end_first : (file : ℕ) (bytes : List ℕ) (fault : Fault) → IsEndOfText file bytes fault → ((m : ℕ) (rule : Rule) → IsBrokenAt Aadl bytes m rule → fault.at ≤ m) → IsFirstBroken Aadl file [] bytes fault.refusal
 end_first file bytes fault e later =
-    let zero_order : order_of fault.refusal.rule ≡ 0 = ap order_of e.rule in
+    let first_rank : rank fault.refusal.rule ≡ 0 = ap rank e.rule in
     record {
       at = fault.at;
       broken = inl (e.rule, refl, e.front);
@@ -123,7 +124,7 @@ one_reading l file before text tokens others a b = a.told ∙ ap (tokens_of file
 abbrev rule_of : ℕ → Rule
 rule_of n = cond (eqb n 0) NotUtf8 (cond (eqb n 1) BadByte (cond (eqb n 2) OpenString (cond (eqb n 3) OpenAnnex (cond (eqb n 4) LongName WideNumber))))
 
-broken_in_order : (l : Language) (rule : Rule) (here : List ℕ) → Breaks l rule here → rule_of (order_of rule) ≡ rule
+broken_in_order : (l : Language) (rule : Rule) (here : List ℕ) → Breaks l rule here → rule_of (rank rule) ≡ rule
 broken_in_order l BadByte here b = refl
 broken_in_order l OpenString here b = refl
 broken_in_order l OpenAnnex here b = refl
@@ -131,8 +132,8 @@ broken_in_order l LongName here b = refl
 broken_in_order Agree WideNumber here b = refl
 broken_in_order l _ here b = absurd b
 
-in_order : (l : Language) (text : List ℕ) (n : ℕ) (rule : Rule) → IsBroken l text n rule → rule_of (order_of rule) ≡ rule
-in_order l text n rule b = elim b [ inl no_text ↦ ap (λ (r : Rule). rule_of (order_of r)) no_text.0 ∙ sym no_text.0 | inr there ↦ broken_in_order l rule (drop n text) there.broken ]
+in_order : (l : Language) (text : List ℕ) (n : ℕ) (rule : Rule) → IsBroken l text n rule → rule_of (rank rule) ≡ rule
+in_order l text n rule b = elim b [ inl no_text ↦ ap (λ (r : Rule). rule_of (rank r)) no_text.0 ∙ sym no_text.0 | inr there ↦ broken_in_order l rule (drop n text) there.broken ]
 
 same_refusal : (r s : Refusal) → r.place ≡ s.place → r.rule ≡ s.rule → r ≡ s
 same_refusal r s places rules = ap (λ (p : Place). record { place = p; rule = r.rule }) places ∙ ap (λ (q : Rule). record { place = s.place; rule = q }) rules
@@ -153,7 +154,7 @@ same_first at other order other_order a b =
 
 pub one_refusal : (l : Language) (file : ℕ) (before text : List ℕ) (r s : Refusal) → IsFirstBroken l file before text r → IsFirstBroken l file before text s → r ≡ s
 one_refusal l file before text r s a b =
-    let same = same_first a.at b.at (order_of r.rule) (order_of s.rule) (a.first b.at s.rule b.broken) (b.first a.at r.rule a.broken) in
+    let same = same_first a.at b.at (rank r.rule) (rank s.rule) (a.first b.at s.rule b.broken) (b.first a.at r.rule a.broken) in
     same_refusal r s
     (a.placed ∙ ap (λ (n : ℕ). place_of file (before ++ take n text)) same.places ∙ sym b.placed)
     (sym (in_order l text a.at r.rule a.broken) ∙ ap rule_of same.orders ∙ in_order l text b.at s.rule b.broken)

@@ -5,6 +5,7 @@ use Rattle.std.specs.Str.{IsValidUpTo}
 use Rattle.ag_base.specs.declared.place.Refusal.{Refusal}
 use Rattle.ag_base.specs.declared.place.Rule.{Rule}
 use Rattle.ag_base.specs.declared.place.Rule.TheVariants.{NotUtf8, BadByte, OpenString, OpenAnnex, LongName, WideNumber}
+use Rattle.ag_base.specs.Rules.{rank}
 use Rattle.ag_lex.specs.declared.token.Language.{Language}
 use Rattle.ag_lex.specs.declared.token.Language.TheVariants.{Aadl, Agree}
 use Rattle.ag_lex.specs.declared.token.TokenKind.TheVariants.{Name, Number}
@@ -46,22 +47,12 @@ pub record IsBrokenAt (l : Language) (text : List ℕ) (n : ℕ) (rule : Rule) :
 abbrev pub IsBroken : Language → List ℕ → ℕ → Rule → Type 0
 IsBroken l text n rule = IsNoText l text n rule ⊎ IsBrokenAt l text n rule
 
--- the order in which, at one place, the first rule is answered
-abbrev pub order_of : Rule → ℕ
-order_of NotUtf8 = 0
-order_of BadByte = 1
-order_of OpenString = 2
-order_of OpenAnnex = 3
-order_of LongName = 4
-order_of WideNumber = 5
-order_of _ = 6
-
 -- text, which stands behind these bytes of the file, breaks the refusal's rule at its place, and none at an earlier place or earlier in the order
 pub record IsFirstBroken (l : Language) (file : ℕ) (before text : List ℕ) (r : Refusal) : Type 0 where
   pub at : ℕ
   pub broken : IsBroken l text at r.rule
   pub placed : r.place ≡ place_of file (before ++ take at text)
-  pub first : (n : ℕ) (rule : Rule) → IsBroken l text n rule → (at < n) ⊎ ((at ≡ n) × (order_of r.rule ≤ order_of rule))
+  pub first : (n : ℕ) (rule : Rule) → IsBroken l text n rule → (at < n) ⊎ ((at ≡ n) × (rank r.rule ≤ rank rule))
 
 -- a name isn't too long, and a number of an annex not too large
 abbrev pub IsFine : Language → Piece → Type 0

@@ -102,6 +102,11 @@ pub fn one_of_the_two()
     ensures { (l : Language) (file : ℕ) (before text : List ℕ) → ((tokens : List Token) × AreKept l file before text tokens) ⊎ ((r : Refusal) × IsFirstBroken l file before text r) }
 {}
 
+/// A file that breaks no rule is UTF-8.
+pub fn files_are_text()
+    ensures { (bytes : List ℕ) → KeepsRules Aadl bytes → IsUtf8 bytes }
+{}
+
 /// Each token of a text stands in it: the bytes of its span are a token of its kind.
 pub fn tokens_stand()
     ensures { (l : Language) (file : ℕ) (before text : List ℕ) (tokens : List Token) (token : Token) → AreTokens l file before text tokens → Contains tokens token → StandsIn l file before text token }

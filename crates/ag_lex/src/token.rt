@@ -3,7 +3,7 @@
 use ag_base::Place;
 
 /// Which language's tokens a text has: they differ in what a number is.
-#[derive(Clone, Copy, Debug, PartialEq, Eq)]
+#[derive(Clone, Copy)]
 pub enum Language {
     /// A file of packages (SAE AS5506).
     Aadl,

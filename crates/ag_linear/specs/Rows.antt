@@ -1,8 +1,8 @@
 -- Rows: sums of streams times factors, and a constant.
 use Rattle.std.specs.Prelude.{ℕ, ℤ, pos, negsuc, Bool, false, not, ◌==◌, ◌&&◌, ◌||◌, ◌+◌, ◌+ℤ◌, ◌*ℤ◌, nat_lt, unsigned_abs, List, [], ◌∷◌, ◌++◌, map, length, Option, Some, None, if◌then◌else◌}
 use Rattle.std.specs.List.{list_all}
-use Rattle.ag_annex.specs.declared.terms.Binary.{Binary}
-use Rattle.ag_annex.specs.declared.terms.Binary.TheVariants as binary
+use Rattle.ag_terms.specs.declared.terms.Binary.{Binary}
+use Rattle.ag_terms.specs.declared.terms.Binary.TheVariants as binary
 use Rattle.ag_linear.specs.declared.value.Factor.{Factor}
 use Rattle.ag_linear.specs.Values.{is_carried}
 

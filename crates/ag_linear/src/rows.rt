@@ -6,8 +6,8 @@ ghost use Rattle.ag_linear.specs.Rows.{compared, passes_limits, carried_row, con
 ghost use Rattle.ag_linear.specs.RowOrder.{AreInOrder, AreParts, AreRows, IsHeld, are_carried, count_of, joined_row};
 
 use crate::value::{Factor, difference, product, sum};
-use ag_annex::Binary;
 use ag_base::OutOfMemory;
+use ag_terms::Binary;
 use std::alloc::Global;
 use std::marker::Model;
 

@@ -5,10 +5,10 @@ ghost use Rattle.std.specs.Option.{SomeIff};
 ghost use Rattle.ag_linear.specs.Values.{is_carried, is_within, carried, value_of_unary, value_of_binary, value_of_wholes, value_of_truths, value_of_choice, passes_limit};
 ghost use Rattle.ag_linear.specs.declared.value.Value.TheVariants.{Whole, Truth};
 
-use ag_annex::{Binary, Unary};
+use ag_terms::{Binary, Unary};
 
 /// The value of a constant expression.
-#[derive(Clone, Copy, Debug, PartialEq, Eq)]
+#[derive(Clone, Copy)]
 pub enum Value {
     Whole(i128),
     Truth(bool),
@@ -16,7 +16,7 @@ pub enum Value {
 
 /// A stream times a factor. The stream is a number that the caller gives; `before` asks for its value of one
 /// instant earlier.
-#[derive(Clone, Copy, Debug, PartialEq, Eq)]
+#[derive(Clone, Copy)]
 pub struct Factor {
     pub stream: usize,
     pub before: bool,
@@ -27,7 +27,7 @@ pub struct Factor {
 const GREATEST_VALUE: u128 = 4_611_686_018_427_387_904;
 
 /// A value of 128 bits, if there is one, and whether the exact one passes the limit of constants.
-#[derive(Clone, Copy, Debug, PartialEq, Eq)]
+#[derive(Clone, Copy)]
 pub struct Valued {
     pub value: Option<Value>,
     pub passes: bool,

@@ -10,13 +10,13 @@ use Rattle.ag_grammar.specs.Deterministic.{Certificate, follow_of, starts}
 use Rattle.ag_grammar.specs.Grammar.{PlainProduction, IsProductionOf, Derives}
 use Rattle.ag_grammar.specs.Texts.{marks_of}
 use Rattle.ag_aadl.specs.declared.marked.Marked.{Marked}
-use Rattle.ag_aadl.specs.declared.packages.Path.{Path}
+use Rattle.ag_terms.specs.declared.names.Path.{Path}
 use Rattle.ag_aadl.specs.Grammar.{with_ahead}
 use Rattle.ag_aadl.specs.Marks.{unmarked}
 use Rattle.ag_aadl.specs.Page.{Line}
-use Rattle.ag_annex.specs.declared.terms.Binary.{Binary}
-use Rattle.ag_annex.specs.declared.terms.Binary.TheVariants.{Arrow, Implies, Iff, Or, And, Less, AtMost, More, AtLeast, Same, Differs, Plus, Minus, Times, Div, Mod}
-use Rattle.ag_annex.specs.declared.terms.Term.{Term}
+use Rattle.ag_terms.specs.declared.terms.Binary.{Binary}
+use Rattle.ag_terms.specs.declared.terms.Binary.TheVariants.{Arrow, Implies, Iff, Or, And, Less, AtMost, More, AtLeast, Same, Differs, Plus, Minus, Times, Div, Mod}
+use Rattle.ag_terms.specs.declared.terms.Term.{Term}
 use Rattle.ag_annex.specs.Certificate.{certificate}
 use Rattle.ag_annex.specs.Grammar.{annex}
 use Rattle.ag_lines.specs.Lines.{IsRanked, tighter, leftward, rightward, compared, negative, negated, number, truth, falsity, grouped, previous, started, chosen, named, called, AreArguments, no_argument, last_argument, next_argument, IsName, GoesOn, name_ends, next_part, a_body, IsAsMarked, AreAsMarked, terminal_beside, terminals_by_mark}

@@ -13,9 +13,9 @@ use Rattle.ag_lex.specs.declared.token.Token.{Token}
 use Rattle.ag_aadl.specs.declared.marked.Marked.{Marked}
 use Rattle.ag_aadl.specs.Marked.{marked, up_to, is_among}
 use Rattle.ag_aadl.specs.Page.{Line}
-use Rattle.ag_annex.specs.declared.clauses.Site.{Site}
+use Rattle.ag_terms.specs.declared.clauses.Site.{Site}
 use Rattle.ag_annex.specs.declared.nesting.Open.{Open}
-use Rattle.ag_annex.specs.declared.terms.Binary.{Binary}
+use Rattle.ag_terms.specs.declared.terms.Binary.{Binary}
 use Rattle.ag_annex.specs.Expressions.{unread, read_tokens, finished, term_of}
 use Rattle.ag_annex.specs.Grammar.{annex}
 use Rattle.ag_lines.specs.Lines.{AreAsMarked, GoesOn, name_ends, next_part, a_body, expressions_in}

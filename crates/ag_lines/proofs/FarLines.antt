@@ -1,7 +1,7 @@
 -- What the lines give where each operand behind an `else` reaches as far as it can, they give without that.
 use Rattle.std.proofs.Common.{ℕ, Bool, List}
 use Rattle.ag_aadl.specs.declared.marked.Marked.{Marked}
-use Rattle.ag_annex.specs.declared.terms.Term.{Term}
+use Rattle.ag_terms.specs.declared.terms.Term.{Term}
 use Rattle.ag_lines.specs.Lines.{IsRanked, AreArguments}
 use Rattle.ag_lines.specs.Lines as line
 use Rattle.ag_lines.specs.Reach.{Tail, IsFar, AreFar, IsStated, tighter, leftward, rightward, compared, negative, negated, number, truth, falsity, grouped, previous, started, chosen, named, called, no_argument, last_argument, next_argument}

@@ -4,7 +4,7 @@ use Rattle.std.specs.Prelude.{pos}
 use Rattle.ag_lex.specs.Rules.{decimal}
 use Rattle.ag_lex.specs.declared.token.Token.{Token}
 use Rattle.ag_aadl.specs.declared.marked.Marked.{Marked}
-use Rattle.ag_aadl.specs.declared.packages.Path.{Path}
+use Rattle.ag_terms.specs.declared.names.Path.{Path}
 use Rattle.ag_aadl.specs.Marked.{own, under}
 use Rattle.ag_aadl.specs.Meaning.{path_of}
 use Rattle.ag_annex.specs.declared.frames.Frame.{Frame}
@@ -14,10 +14,10 @@ use Rattle.ag_annex.specs.declared.frames.Operand.TheVariants.{Nothing, Name, Wh
 use Rattle.ag_annex.specs.declared.frames.Reading.{Reading}
 use Rattle.ag_annex.specs.declared.nesting.Open.{Open}
 use Rattle.ag_annex.specs.declared.nesting.Open.TheVariants.{Bracket, Test, Yes, No, Prefix}
-use Rattle.ag_annex.specs.declared.terms.Binary.TheVariants.{Arrow}
-use Rattle.ag_annex.specs.declared.terms.Term.{Term, Number, Truth, Named}
-use Rattle.ag_annex.specs.declared.terms.Term.TheViews as term
-use Rattle.ag_annex.specs.declared.terms.Unary.TheVariants as unary
+use Rattle.ag_terms.specs.declared.terms.Binary.TheVariants.{Arrow}
+use Rattle.ag_terms.specs.declared.terms.Term.{Term, Number, Truth, Named}
+use Rattle.ag_terms.specs.declared.terms.Term.TheViews as term
+use Rattle.ag_terms.specs.declared.terms.Unary.TheVariants as unary
 use Rattle.ag_annex.specs.Expressions.{operand_term, named as named_as, is_nothing, close_all, with_last, behind_close, behind_comma, behind_test, behind_yes, read_token, read_tokens}
 use Rattle.ag_lines.specs.Lines.{factor, GoesOn, name_parts_in}
 use Rattle.ag_lines.specs.Reach.{NoChoice, IsFar, IsStated, AreFar, negative, negated, number, truth, falsity, grouped, previous, started, named, called, no_argument, last_argument, next_argument}

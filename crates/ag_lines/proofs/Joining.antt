@@ -6,9 +6,9 @@ use Rattle.ag_annex.specs.declared.frames.Frame.{Frame}
 use Rattle.ag_annex.specs.declared.frames.Frame.TheVariants as frame
 use Rattle.ag_annex.specs.declared.nesting.Open.{Open}
 use Rattle.ag_annex.specs.declared.nesting.Open.TheVariants.{No, Chain}
-use Rattle.ag_annex.specs.declared.terms.Binary.{Binary}
-use Rattle.ag_annex.specs.declared.terms.Term.{Term}
-use Rattle.ag_annex.specs.declared.terms.Term.TheViews as term
+use Rattle.ag_terms.specs.declared.terms.Binary.{Binary}
+use Rattle.ag_terms.specs.declared.terms.Term.{Term}
+use Rattle.ag_terms.specs.declared.terms.Term.TheViews as term
 use Rattle.ag_annex.specs.Expressions.{close_before, close_choice, close_all}
 use Rattle.ag_lines.specs.Lines.{factor}
 use Rattle.ag_lines.specs.Reach.{Tail, NoChoice, Taking, Full, IsFar, IsStated, chosen, tail_of_choice}

@@ -5,10 +5,10 @@ use Rattle.ag_annex.specs.declared.frames.Frame.{Frame}
 use Rattle.ag_annex.specs.declared.frames.Frame.TheVariants as frame
 use Rattle.ag_annex.specs.declared.nesting.Open.{Open}
 use Rattle.ag_annex.specs.declared.nesting.Open.TheVariants.{No, Prefix, Chain}
-use Rattle.ag_annex.specs.declared.terms.Binary.{Binary}
-use Rattle.ag_annex.specs.declared.terms.Term.{Term}
-use Rattle.ag_annex.specs.declared.terms.Term.TheViews as term
-use Rattle.ag_annex.specs.declared.terms.Unary.{Unary}
+use Rattle.ag_terms.specs.declared.terms.Binary.{Binary}
+use Rattle.ag_terms.specs.declared.terms.Term.{Term}
+use Rattle.ag_terms.specs.declared.terms.Term.TheViews as term
+use Rattle.ag_terms.specs.declared.terms.Unary.{Unary}
 use Rattle.ag_annex.specs.Expressions.{close_before, close_all}
 use Rattle.ag_lines.specs.Lines.{factor}
 use Rattle.ag_lines.specs.Reach.{Tail, IsFar, IsStated}

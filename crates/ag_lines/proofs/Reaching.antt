@@ -3,7 +3,7 @@ use Rattle.std.proofs.Common.{◌≡◌, inl, inr, ℕ, Bool, false, if◌then�
 use Rattle.std.proofs.lemmas.Bool.{cases_eq, eq-eqb, ne_eqb}
 use Rattle.ag_base.specs.declared.place.Place.{Place}
 use Rattle.ag_aadl.specs.declared.marked.Marked.{Marked}
-use Rattle.ag_aadl.specs.declared.packages.Path.{Path}
+use Rattle.ag_terms.specs.declared.names.Path.{Path}
 use Rattle.ag_annex.specs.declared.frames.Frame.{Frame}
 use Rattle.ag_annex.specs.declared.frames.Frame.TheVariants as frame
 use Rattle.ag_annex.specs.declared.frames.Operand.{Operand}
@@ -11,8 +11,8 @@ use Rattle.ag_annex.specs.declared.frames.Operand.TheVariants.{Nothing}
 use Rattle.ag_annex.specs.declared.frames.Reading.{Reading}
 use Rattle.ag_annex.specs.declared.nesting.Open.{Open}
 use Rattle.ag_annex.specs.declared.nesting.Open.TheVariants.{Bracket, Test, Yes, No, Prefix, Chain}
-use Rattle.ag_annex.specs.declared.terms.Binary.{Binary}
-use Rattle.ag_annex.specs.declared.terms.Term.{Term}
+use Rattle.ag_terms.specs.declared.terms.Binary.{Binary}
+use Rattle.ag_terms.specs.declared.terms.Term.{Term}
 use Rattle.ag_annex.specs.Expressions.{operand_term, is_nothing, close_before, close_all, behind_infix, behind_other, read_token, read_tokens}
 use Rattle.ag_lines.specs.Lines.{factor}
 use Rattle.ag_lines.specs.Reach.{NoChoice, IsFar, IsStated}

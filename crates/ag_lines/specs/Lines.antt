@@ -7,15 +7,15 @@ use Rattle.ag_grammar.specs.Texts.{IsText}
 use Rattle.ag_lex.specs.declared.token.Token.{Token}
 use Rattle.ag_lex.specs.Rules.{decimal}
 use Rattle.ag_aadl.specs.declared.marked.Marked.{Marked}
-use Rattle.ag_aadl.specs.declared.packages.Path.{Path}
+use Rattle.ag_terms.specs.declared.names.Path.{Path}
 use Rattle.ag_aadl.specs.Marked.{marked, own, under, up_to}
 use Rattle.ag_aadl.specs.Marks.{unmarked}
 use Rattle.ag_aadl.specs.Meaning.{path_of}
-use Rattle.ag_annex.specs.declared.terms.Binary.{Binary}
-use Rattle.ag_annex.specs.declared.terms.Binary.TheVariants.{Arrow}
-use Rattle.ag_annex.specs.declared.terms.Term.{Term, Number, Truth, Named}
-use Rattle.ag_annex.specs.declared.terms.Term.TheViews as term
-use Rattle.ag_annex.specs.declared.terms.Unary.TheVariants as unary
+use Rattle.ag_terms.specs.declared.terms.Binary.{Binary}
+use Rattle.ag_terms.specs.declared.terms.Binary.TheVariants.{Arrow}
+use Rattle.ag_terms.specs.declared.terms.Term.{Term, Number, Truth, Named}
+use Rattle.ag_terms.specs.declared.terms.Term.TheViews as term
+use Rattle.ag_terms.specs.declared.terms.Unary.TheVariants as unary
 use Rattle.ag_annex.specs.Grammar.{annex}
 use Rattle.ag_annex.specs.Marks.{value_mark, end_mark, arrow_mark, implies_mark, iff_mark, or_mark, and_mark, less_mark, at_most_mark, more_mark, at_least_mark, same_mark, differs_mark, plus_mark, minus_mark, times_mark, div_mark, mod_mark, negative_mark, not_mark, pre_mark, prev_mark, if_mark, then_mark, else_mark, number_mark, true_mark, false_mark, group_mark, operand_mark, call_mark, argument_mark, close_mark, path_mark, part_mark, path_body_mark}
 use Rattle.ag_annex.specs.Operators.{binary_of, rank, comparison, last_right}

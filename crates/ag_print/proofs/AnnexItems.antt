@@ -16,7 +16,8 @@ use Rattle.ag_aadl.specs.Files.{IsFile}
 use Rattle.ag_aadl.specs.Marked.{marked, own, under, has_mark, first_of, is_among, up_to, segments}
 use Rattle.ag_aadl.specs.Marks.{package_mark, item_mark, owner_mark, declared_mark, annex_name_mark, annex_text_mark}
 use Rattle.ag_aadl.specs.Meaning.{is_agree, annex_of, annexes_of, frame_of, body_of, item_of, begins_with, parts_of_package, package_of}
-use Rattle.ag_aadl.specs.Words.{same, terminals_of}
+use Rattle.ag_aadl.specs.Words.{terminals_of}
+use Rattle.ag_terms.specs.Names.{same}
 use Rattle.ag_print.specs.Annexes.{item_annexes, item_site, annexes_of_item, annexes_of_package, annexes_of_packages}
 use Rattle.ag_print.specs.Shares.{IsOneOf}
 use Rattle.ag_print.proofs.AnnexTexts.{is_paired, IsTextOf, Annexed, file_annexed}

@@ -8,8 +8,8 @@ use Rattle.ag_lex.specs.declared.token.Language.TheVariants.{Agree}
 use Rattle.ag_lex.specs.declared.token.Token.{Token}
 use Rattle.ag_lex.specs.Answers.{AreKept, bytes_before, bytes_inside}
 use Rattle.ag_lex.specs.Rules.{IsFirstBroken}
-use Rattle.ag_annex.specs.declared.clauses.Clause.{Clause}
-use Rattle.ag_annex.specs.declared.clauses.Site.{Site}
+use Rattle.ag_terms.specs.declared.clauses.Clause.{Clause}
+use Rattle.ag_terms.specs.declared.clauses.Site.{Site}
 use Rattle.ag_annex.specs.Annexes.{AreAnnexTokens, IsAnnex, IsFirstWrong}
 use Rattle.ag_print.specs.declared.annexes.Annex.{Annex}
 use Rattle.ag_print.specs.Annexes.{HasTokens, StatesClauses, IsTokenRefused, IsClauseRefused}

@@ -4,8 +4,8 @@ use Rattle.std.specs.List.{list_all}
 use Rattle.std.proofs.lemmas.Bool.{and_parts, and_from}
 use Rattle.std.proofs.lemmas.List.Folds.{list_all-append}
 use Rattle.ag_grammar.specs.declared.grammar.Symbol.TheVariants.{Nonterminal}
-use Rattle.ag_aadl.specs.declared.packages.Path.{Path}
-use Rattle.ag_aadl.specs.declared.packages.Ident.{Ident}
+use Rattle.ag_terms.specs.declared.names.Path.{Path}
+use Rattle.ag_terms.specs.declared.names.Ident.{Ident}
 use Rattle.ag_aadl.specs.Marks.{unmarked, part_mark, join_mark, class_body_mark}
 use Rattle.ag_aadl.specs.Nonterminals.{pname, more_names, some_class, some_body, some_braces}
 use Rattle.ag_aadl.specs.Terminals.{colons, dot}

@@ -9,8 +9,8 @@ use Rattle.ag_lex.specs.declared.token.Token.{Token}
 use Rattle.ag_lex.specs.Answers.{AreKept, bytes_before, bytes_inside}
 use Rattle.ag_lex.specs.Rules.{IsFirstBroken}
 use Rattle.ag_aadl.specs.declared.packages.Package.{Package}
-use Rattle.ag_annex.specs.declared.clauses.Clause.{Clause}
-use Rattle.ag_annex.specs.declared.clauses.Site.{Site}
+use Rattle.ag_terms.specs.declared.clauses.Clause.{Clause}
+use Rattle.ag_terms.specs.declared.clauses.Site.{Site}
 use Rattle.ag_annex.specs.Annexes.{IsAnnex, IsFirstWrong}
 use Rattle.ag_print.specs.Annexes.{Stated, IsStated, AreAllStated, ItemStates, PackageStates, PackagesState, item_annexes, item_site, annexes_of_item, annexes_of_package, annexes_of_packages, HasTokens, StatesClauses, IsTokenRefused, IsAnnexRefused}
 use Rattle.ag_print.proofs.RereadingAgain.{heads, tails}

@@ -4,7 +4,7 @@ use Rattle.std.specs.List.{list_all}
 use Rattle.std.proofs.lemmas.Bool.{both_ways, and_parts, and_from, or_cases, or_parts, or_left, eqb-true, eqb-false, eq-eqb, ne_eqb}
 use Rattle.ag_lex.specs.declared.token.Token.{Token}
 use Rattle.ag_aadl.specs.declared.marked.Marked.{Marked}
-use Rattle.ag_aadl.specs.declared.packages.Path.{Path}
+use Rattle.ag_terms.specs.declared.names.Path.{Path}
 use Rattle.ag_aadl.specs.Marked.{under, has_mark, is_among, up_to, segments}
 use Rattle.ag_aadl.specs.Marks.{unmarked, declared_mark, package_mark, part_mark, import_mark, item_mark, owner_mark, feature_mark, direction_mark, event_mark, data_mark, class_body_mark, sub_mark, kind_mark, connection_mark, spot_mark, spot_port_mark, end_mark}
 use Rattle.ag_aadl.specs.Meaning.{ident_under, path_of, class_of, kind_of, port_of, ports_of, sub_of, subs_of, end_of, part_at, wire_of, wires_of}

@@ -1,7 +1,7 @@
 -- What the annexes of a file state may be printed.
 use Rattle.std.proofs.Common.{◌≡◌, ◌<◌, ℕ, zero, suc, Bool, true, List, [], ◌∷◌, ◌++◌, length, take, refl, sym, subst, ◌∙◌, inl, inr, arith}
 use Rattle.std.specs.List.{All, AllZip, list_all}
-use Rattle.std.specs.Str.{IsUtf8, IsValidUpTo, is_utf8}
+use Rattle.std.specs.Str.{IsUtf8}
 use Rattle.std.proofs.lemmas.Bool.{both_ways, cases_Bool, cases_lt, cases_order, and_from}
 use Rattle.std.proofs.lemmas.List.{nil_from_length, take_all}
 use Rattle.std.proofs.lemmas.List.Elements.{All-head, All-tail}
@@ -15,43 +15,14 @@ use Rattle.ag_lex.specs.Rules.{KeepsRules}
 use Rattle.ag_aadl.specs.declared.packages.Item.{Item}
 use Rattle.ag_aadl.specs.declared.packages.Package.{Package}
 use Rattle.ag_aadl.specs.Files.{IsFile}
-use Rattle.ag_annex.specs.declared.clauses.Clause.{Clause}
-use Rattle.ag_annex.specs.declared.clauses.Site.{Site}
+use Rattle.ag_terms.specs.declared.clauses.Clause.{Clause}
+use Rattle.ag_terms.specs.declared.clauses.Site.{Site}
 use Rattle.ag_annex.specs.Annexes.{AreAnnexTokens, IsAnnex}
 use Rattle.ag_unparse.specs.Printable.{AreLabelsText, is_printable_clause, may_stand}
 use Rattle.ag_unparse.specs.Rereading.{MayBePrinted}
 use Rattle.ag_print.specs.Annexes.{Stated, IsStated, AreAllStated, ItemStates, PackageStates, PackagesState, item_annexes, item_site}
 use Rattle.ag_print.specs.Printable.{NoneWithout, ItemMayState, PackageMayState, StatedMayBePrinted}
 use Rattle.ag_print.proofs.AnnexItems.{ItemHas, PackageHas, file_has}
-
--- ---- a file that breaks no rule is UTF-8
-
--- where the front that is UTF-8 ends, if not all is
-front_end : (bytes : List ℕ) (n : ℕ) → (IsUtf8 bytes → ⊥) → ((m : ℕ) → n < m → IsUtf8 (take m bytes) → ⊥) → (k : ℕ) × IsValidUpTo bytes k
-front_end bytes zero not_text longest =
-    let some : 0 < length bytes = elim (cases_lt 0 (length bytes)) [ inl lt ↦ lt | inr none ↦ absurd (not_text (subst IsUtf8 (sym (nil_from_length bytes (omega arith))) IsUtf8-nil)) ] in
-    (0, record { short = some; front = IsUtf8-nil; longest = longest })
-front_end bytes (suc n) not_text longest =
-    elim (cases_Bool (is_utf8 (take (suc n) bytes))) [
-      | inl is ↦
-          let front = IsUtf8-from_is_utf8 (take (suc n) bytes) is in
-          let short : suc n < length bytes = elim (cases_lt (suc n) (length bytes)) [ inl lt ↦ lt | inr all ↦ absurd (not_text (subst IsUtf8 (take_all (suc n) bytes all) front)) ] in
-          (suc n, record { short = short; front = front; longest = longest })
-      | inr is_not ↦ front_end bytes n not_text (λ m lt u. elim (cases_order m (suc n)) [
-        | inl same ↦ both_ways (is_utf8 (take (suc n) bytes)) is_not (is_utf8-from_IsUtf8 (take (suc n) bytes) (subst (λ (k : ℕ). IsUtf8 (take k bytes)) same u))
-        | inr differ ↦ elim differ [ inl below ↦ absurd (omega arith) | inr above ↦ longest m above u ]
-      ])
-    ]
-
-file_is_text : (bytes : List ℕ) → KeepsRules Aadl bytes → IsUtf8 bytes
-file_is_text bytes kept =
-    elim (cases_Bool (is_utf8 bytes)) [
-      | inl is ↦ IsUtf8-from_is_utf8 bytes is
-      | inr is_not ↦
-          let not_text : IsUtf8 bytes → ⊥ = λ u. both_ways (is_utf8 bytes) is_not (is_utf8-from_IsUtf8 bytes u) in
-          let end = front_end bytes (length bytes) not_text (λ m lt u. not_text (subst IsUtf8 (take_all m bytes (omega arith)) u)) in
-          absurd (kept end.0 NotUtf8 (inl (refl, refl, end.1)))
-    ]
 
 -- ---- clauses
 
@@ -88,6 +59,10 @@ AnnexesMayBePrinted = (bytes : List ℕ) (tokens : List Token) (site : Site) (cl
 abbrev pub LabelsAreText : Type 0
 LabelsAreText = (bytes : List ℕ) (tokens : List Token) (site : Site) (clauses : List Clause) → IsUtf8 bytes → AreAnnexTokens bytes tokens → IsAnnex bytes tokens site clauses → AreLabelsText clauses
 
+-- a file that breaks no rule is UTF-8
+abbrev pub FilesAreText : Type 0
+FilesAreText = (bytes : List ℕ) → KeepsRules Aadl bytes → IsUtf8 bytes
+
 -- those of one annex, of several one behind the other, of a declaration, of a package
 one_fit : AnnexesMayBePrinted → LabelsAreText → (bytes : List ℕ) → IsUtf8 bytes → (s : Site) (annex : Token) (clauses : List Clause) → IsAnnexOf bytes annex → IsStated bytes annex s clauses → AreFit s clauses
 one_fit may text bytes utf8 s annex clauses among stated =
@@ -121,7 +96,7 @@ package_may : AnnexesMayBePrinted → LabelsAreText → (bytes : List ℕ) → I
 package_may may text bytes utf8 p stated among states = both_lists (ItemHas (IsAnnexOf bytes)) (ItemStates bytes) ItemMayState (item_may may text bytes utf8) p.items stated among states
 
 -- what the annexes of a file state may be printed
-pub stated_may_be_printed : AnnexesMayBePrinted → LabelsAreText → (file : ℕ) (bytes : List ℕ) (tokens : List Token) (packages : List Package) (stated : Stated) → AreKept Aadl file [] bytes tokens → IsFile bytes tokens packages → PackagesState bytes packages stated
+pub stated_may_be_printed : AnnexesMayBePrinted → LabelsAreText → FilesAreText → (file : ℕ) (bytes : List ℕ) (tokens : List Token) (packages : List Package) (stated : Stated) → AreKept Aadl file [] bytes tokens → IsFile bytes tokens packages → PackagesState bytes packages stated
     → StatedMayBePrinted packages stated
-stated_may_be_printed may text file bytes tokens packages stated kept read states =
-    both_lists (PackageHas (IsAnnexOf bytes)) (PackageStates bytes) PackageMayState (package_may may text bytes (file_is_text bytes kept.kept)) packages stated (file_has file bytes tokens packages kept read) states
+stated_may_be_printed may text whole file bytes tokens packages stated kept read states =
+    both_lists (PackageHas (IsAnnexOf bytes)) (PackageStates bytes) PackageMayState (package_may may text bytes (whole bytes kept.kept)) packages stated (file_has file bytes tokens packages kept read) states

@@ -13,8 +13,8 @@ use Rattle.ag_aadl.specs.declared.packages.Package.{Package}
 use Rattle.ag_aadl.specs.Marked.{own, under, segments}
 use Rattle.ag_aadl.specs.Marks.{package_mark, import_mark, item_mark, owner_mark, declared_mark, annex_name_mark, annex_text_mark, end_mark}
 use Rattle.ag_aadl.specs.Meaning.{is_agree, annex_of, annexes_of, item_of, begins_with, parts_of_package, package_of, packages_of}
-use Rattle.ag_aadl.specs.Words.{same}
-use Rattle.ag_annex.specs.declared.clauses.Clause.{Clause}
+use Rattle.ag_terms.specs.Names.{same}
+use Rattle.ag_terms.specs.declared.clauses.Clause.{Clause}
 use Rattle.ag_print.specs.Annexes.{Stated, item_annexes}
 use Rattle.ag_print.specs.Canonical.{Spelled, annex_bytes, first_list, other_lists}
 use Rattle.ag_print.specs.Same.{is_any, annexed, SameAnnexed}

@@ -4,10 +4,10 @@ use Rattle.std.specs.Prelude.{◌==◌, Option, Some, None, codes}
 use Rattle.std.specs.List.{filter, filter_map, flat_map, list_all}
 use Rattle.std.proofs.lemmas.Bool.{and_parts}
 use Rattle.std.proofs.lemmas.List.{append-nil, map-append}
-use Rattle.ag_aadl.specs.declared.packages.Path.{Path}
+use Rattle.ag_terms.specs.declared.names.Path.{Path}
 use Rattle.ag_aadl.specs.declared.packages.Category.{Category}
 use Rattle.ag_aadl.specs.declared.packages.Category.TheVariants.{System, Process, Thread, Device, Abstract}
-use Rattle.ag_aadl.specs.declared.packages.Ident.{Ident}
+use Rattle.ag_terms.specs.declared.names.Ident.{Ident}
 use Rattle.ag_aadl.specs.declared.packages.PortKind.{PortKind}
 use Rattle.ag_aadl.specs.declared.packages.PortKind.TheVariants as port_kind
 use Rattle.ag_aadl.specs.declared.packages.Port.{Port}
@@ -21,10 +21,11 @@ use Rattle.ag_aadl.specs.declared.packages.Item.TheVariants as item
 use Rattle.ag_aadl.specs.declared.packages.Package.{Package}
 use Rattle.ag_aadl.specs.Marks.{package_mark, part_mark, join_mark, import_mark, item_mark, owner_mark, declared_mark, feature_mark, direction_mark, event_mark, data_mark, class_body_mark, sub_mark, kind_mark, connection_mark, spot_mark, spot_port_mark, annex_name_mark, annex_text_mark, end_mark, end_owner_mark, end_name_mark, close_mark, features_mark, subcomponents_mark, connections_mark}
 use Rattle.ag_aadl.specs.Meaning.{kind_of}
-use Rattle.ag_aadl.specs.Words.{same, reserved_words}
+use Rattle.ag_aadl.specs.Words.{reserved_words}
+use Rattle.ag_terms.specs.Names.{same}
 use Rattle.ag_aadl.specs.Names.{name_parts}
 use Rattle.ag_print.specs.Canonical.{Spelled, name_at, word, pname_words, class_words, category_word, semicolon, port_line, sub_line, wire_line, annex_line, first_list, other_lists, import_line}
-use Rattle.ag_annex.specs.declared.clauses.Clause.{Clause}
+use Rattle.ag_terms.specs.declared.clauses.Clause.{Clause}
 use Rattle.ag_print.specs.Annexes.{Stated}
 use Rattle.ag_unparse.specs.Same.{bare_ident}
 use Rattle.ag_print.specs.Same.{bare_class, bare_port, bare_frame, bare_sub, bare_wire, bare_body, bare_item, bare_package}

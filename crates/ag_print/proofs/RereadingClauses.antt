@@ -14,8 +14,8 @@ use Rattle.ag_aadl.specs.declared.packages.Item.TheVariants as item
 use Rattle.ag_aadl.specs.declared.packages.Package.{Package}
 use Rattle.ag_aadl.specs.Files.{IsFile}
 use Rattle.ag_aadl.specs.Marked.{own}
-use Rattle.ag_annex.specs.declared.clauses.Clause.{Clause}
-use Rattle.ag_annex.specs.declared.clauses.Site.{Site}
+use Rattle.ag_terms.specs.declared.clauses.Clause.{Clause}
+use Rattle.ag_terms.specs.declared.clauses.Site.{Site}
 use Rattle.ag_annex.specs.Annexes.{IsAnnex}
 use Rattle.ag_unparse.specs.Canonical.{inside_text}
 use Rattle.ag_unparse.specs.Depth.{AreShallow}

@@ -6,8 +6,8 @@ use Rattle.std.proofs.lemmas.List.{append_assoc, append-nil, map-append}
 use Rattle.std.proofs.lemmas.List.Folds.{list_all-map}
 use Rattle.ag_aadl.specs.declared.names.Naming.{Naming}
 use Rattle.ag_aadl.specs.declared.names.Naming.TheVariants as naming
-use Rattle.ag_aadl.specs.declared.packages.Path.{Path}
-use Rattle.ag_aadl.specs.declared.packages.Ident.{Ident}
+use Rattle.ag_terms.specs.declared.names.Path.{Path}
+use Rattle.ag_terms.specs.declared.names.Ident.{Ident}
 use Rattle.ag_aadl.specs.declared.packages.PortKind.{PortKind}
 use Rattle.ag_aadl.specs.declared.packages.PortKind.TheVariants as port_kind
 use Rattle.ag_aadl.specs.declared.packages.Port.{Port}
@@ -19,10 +19,11 @@ use Rattle.ag_aadl.specs.declared.packages.Item.{Item}
 use Rattle.ag_aadl.specs.declared.packages.Item.TheVariants as item
 use Rattle.ag_aadl.specs.declared.packages.Package.{Package}
 use Rattle.ag_aadl.specs.Marks.{import_mark, feature_mark, sub_mark, connection_mark, close_mark, features_mark, subcomponents_mark, connections_mark}
-use Rattle.ag_aadl.specs.Words.{same, reserved_words, known_symbols}
+use Rattle.ag_aadl.specs.Words.{reserved_words, known_symbols}
+use Rattle.ag_terms.specs.Names.{same}
 use Rattle.ag_aadl.specs.Names.{name_parts}
 use Rattle.ag_lex.specs.declared.token.Token.{Token}
-use Rattle.ag_annex.specs.declared.clauses.Clause.{Clause}
+use Rattle.ag_terms.specs.declared.clauses.Clause.{Clause}
 use Rattle.ag_print.specs.Canonical.{Spelled, name_at, sign_at, sign, word, more_parts, parts_words, pname_words, body_words, package_parts, class_words, semicolon, kind_words, port_line, sub_line, spot_words, end_words, wire_line, import_line}
 use Rattle.ag_print.proofs.RereadingSeen.{Seen}
 use Rattle.ag_print.proofs.RereadingPieces.{among, both, all_both}

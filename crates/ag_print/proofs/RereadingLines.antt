@@ -5,8 +5,8 @@ use Rattle.std.specs.List.{flat_map, list_all}
 use Rattle.std.proofs.lemmas.Grind.{flat_map-append}
 use Rattle.std.proofs.lemmas.List.{append_assoc, append-nil, map-append}
 use Rattle.std.proofs.lemmas.List.Folds.{list_all-map}
-use Rattle.ag_aadl.specs.declared.packages.Path.{Path}
-use Rattle.ag_aadl.specs.declared.packages.Ident.{Ident}
+use Rattle.ag_terms.specs.declared.names.Path.{Path}
+use Rattle.ag_terms.specs.declared.names.Ident.{Ident}
 use Rattle.ag_aadl.specs.declared.packages.PortKind.{PortKind}
 use Rattle.ag_aadl.specs.declared.packages.PortKind.TheVariants as port_kind
 use Rattle.ag_aadl.specs.declared.packages.Port.{Port}
@@ -20,7 +20,7 @@ use Rattle.ag_aadl.specs.declared.packages.Package.{Package}
 use Rattle.ag_aadl.specs.Marks.{unmarked, package_mark, part_mark, join_mark, import_mark, item_mark, owner_mark, declared_mark, feature_mark, direction_mark, event_mark, data_mark, class_body_mark, sub_mark, kind_mark, connection_mark, spot_mark, spot_port_mark, annex_name_mark, annex_text_mark, end_mark, end_owner_mark, end_name_mark, close_mark, features_mark, subcomponents_mark, connections_mark}
 use Rattle.ag_aadl.specs.Words.{terminal_of}
 use Rattle.ag_lex.specs.declared.token.Token.{Token}
-use Rattle.ag_annex.specs.declared.clauses.Clause.{Clause}
+use Rattle.ag_terms.specs.declared.clauses.Clause.{Clause}
 use Rattle.ag_print.specs.Annexes.{Stated}
 use Rattle.ag_print.specs.Canonical.{Spelled, name_at, sign_at, word, sign, more_parts, parts_words, pname_words, body_words, package_parts, class_words, category_word, semicolon, section, kind_words, port_line, sub_line, spot_words, end_words, wire_line, annex_line, annex_lines, frame_lines, body_lines, item_lines, first_list, other_lists, items_lines, import_line, package_lines, canonical_lines}
 use Rattle.ag_print.proofs.RereadingSeen.{Seen, two}

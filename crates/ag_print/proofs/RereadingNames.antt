@@ -4,8 +4,8 @@ use Rattle.std.specs.Prelude.{◌==◌, Option, Some, None, codes}
 use Rattle.std.proofs.lemmas.Bool.{and_parts}
 use Rattle.std.proofs.lemmas.Bool.Decides.{Decides-eqb}
 use Rattle.std.proofs.lemmas.List.{append_assoc, append-nil, map-append}
-use Rattle.ag_aadl.specs.declared.packages.Path.{Path}
-use Rattle.ag_aadl.specs.declared.packages.Ident.{Ident}
+use Rattle.ag_terms.specs.declared.names.Path.{Path}
+use Rattle.ag_terms.specs.declared.names.Ident.{Ident}
 use Rattle.ag_aadl.specs.Marks.{part_mark, class_body_mark}
 use Rattle.ag_aadl.specs.Names.{put_before, name_parts}
 use Rattle.ag_print.specs.Canonical.{Spelled, more_parts, parts_words, body_words, package_parts, class_words, semicolon}

@@ -21,7 +21,7 @@ use Rattle.ag_aadl.specs.Marked.{own}
 use Rattle.ag_aadl.specs.Marks.{unmarked, package_mark, part_mark, join_mark, import_mark, item_mark, owner_mark, declared_mark, feature_mark, direction_mark, event_mark, data_mark, class_body_mark, sub_mark, kind_mark, connection_mark, spot_mark, spot_port_mark, annex_name_mark, annex_text_mark, end_mark, end_owner_mark, end_name_mark, close_mark, features_mark, subcomponents_mark, connections_mark}
 use Rattle.ag_aadl.specs.Rules.{refused_at, same_names, is_head, is_end, naming_after, package_after, declaration_after, end_after, names_after, is_misnamed, misnamed, obey_names, is_section, obey_sections, region_of, is_nowhere, watched_after, value_after, timing_inside, obey_timing, all_obeyed, obey, run_from, run}
 use Rattle.ag_aadl.specs.Terminals.{gives}
-use Rattle.ag_aadl.specs.Words.{same}
+use Rattle.ag_terms.specs.Names.{same}
 use Rattle.ag_print.proofs.RereadingSeen.{Seen, seen_of, cond_both, two, three}
 use Rattle.ag_print.proofs.RereadingPieces.{among, both}
 

@@ -4,8 +4,8 @@ use Rattle.std.specs.Prelude.{suc, zero, ◌==◌, Option, Some, None, codes, sl
 use Rattle.std.specs.List.{filter, filter_map, list_any, cons_option}
 use Rattle.ag_lex.specs.declared.token.Token.{Token}
 use Rattle.ag_aadl.specs.declared.marked.Marked.{Marked}
-use Rattle.ag_aadl.specs.declared.packages.Ident.{Ident}
-use Rattle.ag_aadl.specs.declared.packages.Path.{Path}
+use Rattle.ag_terms.specs.declared.names.Ident.{Ident}
+use Rattle.ag_terms.specs.declared.names.Path.{Path}
 use Rattle.ag_aadl.specs.declared.packages.Category.{Category}
 use Rattle.ag_aadl.specs.declared.packages.Category.TheVariants.{System}
 use Rattle.ag_aadl.specs.declared.packages.Port.{Port}
@@ -21,7 +21,7 @@ use Rattle.ag_aadl.specs.Marked.{own, under, has_mark, first_of, up_to, segments
 use Rattle.ag_aadl.specs.Marks.{package_mark, part_mark, import_mark, item_mark, owner_mark, declared_mark, feature_mark, direction_mark, event_mark, data_mark, class_body_mark, sub_mark, kind_mark, connection_mark, spot_mark, spot_port_mark, annex_name_mark, end_mark}
 use Rattle.ag_aadl.specs.Meaning.{ident_under, joined, some_ident, path_of, class_of, category_of, category_under, kind_of, port_of, sub_of, end_of, part_at, wire_of, is_agree, frame_of, body_of, item_of, begins_with, parts_of_package, name_of, imports_in, items_in, package_of, packages_of}
 use Rattle.ag_aadl.specs.Terminals.{out_word}
-use Rattle.ag_aadl.specs.Words.{same}
+use Rattle.ag_terms.specs.Names.{same}
 use Rattle.ag_unparse.specs.Same.{nowhere, bare_ident, bare_option}
 use Rattle.ag_print.specs.Same.{no_token, bare_class, bare_port, bare_frame, bare_sub, bare_end, bare_wire, bare_body, bare_item, bare_package}
 

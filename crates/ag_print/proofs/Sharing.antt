@@ -5,8 +5,8 @@ use Rattle.std.proofs.lemmas.List.{append_assoc, drop_more}
 use Rattle.ag_lex.specs.declared.token.Token.{Token}
 use Rattle.ag_aadl.specs.declared.packages.Item.{Item}
 use Rattle.ag_aadl.specs.declared.packages.Package.{Package}
-use Rattle.ag_annex.specs.declared.clauses.Clause.{Clause}
-use Rattle.ag_annex.specs.declared.clauses.Site.{Site}
+use Rattle.ag_terms.specs.declared.clauses.Clause.{Clause}
+use Rattle.ag_terms.specs.declared.clauses.Site.{Site}
 use Rattle.ag_print.specs.Annexes.{AreAllStated, ItemStates, PackagesState, item_annexes, item_site, annexes_of_item, annexes_of_packages}
 use Rattle.ag_print.specs.Canonical.{item_lines, items_lines, package_lines, canonical_lines}
 use Rattle.ag_print.specs.Shares.{StatesThese, joined, item_share, behind_item, items_share, behind_items, shares}

@@ -8,10 +8,10 @@ use Rattle.std.proofs.lemmas.List.Elements.{All-nil, All-cons}
 use Rattle.ag_lex.specs.declared.token.Token.{Token}
 use Rattle.ag_lex.specs.declared.token.TokenKind.TheVariants.{Name, Annex, Symbol}
 use Rattle.ag_lex.specs.Spelling.{is_name}
-use Rattle.ag_aadl.specs.declared.packages.Path.{Path}
+use Rattle.ag_terms.specs.declared.names.Path.{Path}
 use Rattle.ag_aadl.specs.declared.packages.Category.{Category}
 use Rattle.ag_aadl.specs.declared.packages.Category.TheVariants.{System, Process, Thread, Device, Abstract}
-use Rattle.ag_aadl.specs.declared.packages.Ident.{Ident}
+use Rattle.ag_terms.specs.declared.names.Ident.{Ident}
 use Rattle.ag_aadl.specs.declared.packages.PortKind.{PortKind}
 use Rattle.ag_aadl.specs.declared.packages.PortKind.TheVariants as port_kind
 use Rattle.ag_aadl.specs.declared.packages.Port.{Port}
@@ -26,7 +26,7 @@ use Rattle.ag_aadl.specs.Marks.{unmarked, package_mark, part_mark, join_mark, im
 use Rattle.ag_aadl.specs.Terminals.{name}
 use Rattle.ag_aadl.specs.Words.{terminal_of}
 use Rattle.ag_aadl.specs.Names.{name_parts}
-use Rattle.ag_annex.specs.declared.clauses.Clause.{Clause}
+use Rattle.ag_terms.specs.declared.clauses.Clause.{Clause}
 use Rattle.ag_unparse.specs.Printable.{are_printable_clauses, AreLabelsText}
 use Rattle.ag_print.specs.Annexes.{Stated}
 use Rattle.ag_print.specs.Canonical.{Spelled, name_at, sign_at, word, sign, more_parts, parts_words, pname_words, body_words, package_parts, class_words, category_word, semicolon, section, direction_word, kind_words, port_line, sub_line, spot_words, wire_line, annex_bytes, annex_word, annex_line, annex_lines, frame_lines, body_lines, item_lines, items_lines, import_line, package_lines, canonical_lines}

@@ -10,7 +10,7 @@ use Rattle.ag_lex.specs.declared.token.Token.{Token}
 use Rattle.ag_lex.specs.declared.token.TokenKind.TheVariants.{Name, Annex}
 use Rattle.ag_aadl.specs.declared.packages.Category.{Category}
 use Rattle.ag_aadl.specs.declared.packages.Category.TheVariants.{System, Process, Thread, Device, Abstract}
-use Rattle.ag_aadl.specs.declared.packages.Ident.{Ident}
+use Rattle.ag_terms.specs.declared.names.Ident.{Ident}
 use Rattle.ag_aadl.specs.declared.packages.Frame.{Frame}
 use Rattle.ag_aadl.specs.declared.packages.Body.{Body}
 use Rattle.ag_aadl.specs.declared.packages.Item.{Item}
@@ -19,7 +19,7 @@ use Rattle.ag_aadl.specs.declared.packages.Package.{Package}
 use Rattle.ag_aadl.specs.Marks.{unmarked, package_mark, import_mark, item_mark, owner_mark, declared_mark, annex_name_mark, annex_text_mark, end_mark, end_owner_mark, end_name_mark, close_mark, features_mark, subcomponents_mark, connections_mark}
 use Rattle.ag_aadl.specs.Nonterminals.{packages, package_unit, pname, withs, more_imports, declarations, package_properties, category, component, frame_or_body, frame_sections, body_sections, annex}
 use Rattle.ag_aadl.specs.Terminals.{name, package_word, public_word, with_word, end_word, system_word, process_word, thread_word, device_word, abstract_word, implementation_word, annex_word, annex_text, dot, semicolon}
-use Rattle.ag_annex.specs.declared.clauses.Clause.{Clause}
+use Rattle.ag_terms.specs.declared.clauses.Clause.{Clause}
 use Rattle.ag_print.specs.Annexes.{Stated}
 use Rattle.ag_print.specs.Canonical.{Spelled, word, name_at, sign, sign_at, section, pname_words, category_word, port_line, sub_line, wire_line, annex_bytes, annex_line, annex_lines, frame_lines, body_lines, item_lines, first_list, other_lists, items_lines, import_line, package_lines, canonical_lines}
 use Rattle.ag_print.specs.Printable.{is_printable_ident, is_printable_package_name, is_printable_port, is_printable_sub, is_printable_wire, is_printable_frame, is_printable_body, is_printable_item, is_printable_package, are_printable}

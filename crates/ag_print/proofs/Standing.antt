@@ -14,7 +14,7 @@ use Rattle.ag_aadl.specs.declared.packages.Package.{Package}
 use Rattle.ag_aadl.specs.Grammar.{aadl}
 use Rattle.ag_aadl.specs.Words.{terminal_of, terminals_of}
 use Rattle.ag_lex.specs.Spelling.{has_close}
-use Rattle.ag_annex.specs.declared.clauses.Clause.{Clause}
+use Rattle.ag_terms.specs.declared.clauses.Clause.{Clause}
 use Rattle.ag_unparse.specs.Canonical.{inside_text}
 use Rattle.ag_unparse.specs.Printable.{are_printable_clauses, AreLabelsText}
 use Rattle.ag_print.specs.Annexes.{Stated}

@@ -2,7 +2,8 @@
 use Rattle.std.proofs.Common.{◌≡◌, refl, codes}
 use Rattle.ag_lex.specs.declared.token.TokenKind.TheVariants.{Name, Symbol}
 use Rattle.ag_aadl.specs.Terminals.{name, package_word, public_word, with_word, end_word, system_word, process_word, thread_word, device_word, abstract_word, data_word, implementation_word, features_word, subcomponents_word, connections_word, annex_word, in_word, out_word, event_word, port_word, colons, semicolon, colon, dot, arrow}
-use Rattle.ag_aadl.specs.Words.{same, reserved_words, known_symbols, terminal_of}
+use Rattle.ag_aadl.specs.Words.{reserved_words, known_symbols, terminal_of}
+use Rattle.ag_terms.specs.Names.{same}
 
 pub is_package : terminal_of Name (codes "package") ≡ package_word
 unfolding same reserved_words

@@ -9,7 +9,7 @@ use Rattle.ag_print.specs.Layout.{Word, joins_before, joins_behind, words_bytes,
 use Rattle.ag_print.specs.Written.{Written, nothing, name_word, with_word, with_words, with_end, with_lines}
 use Rattle.ag_aadl.specs.Marks.{join_mark, part_mark}
 use Rattle.ag_aadl.specs.Names.{put_before, name_parts}
-use Rattle.ag_annex.specs.declared.clauses.Clause.{Clause}
+use Rattle.ag_terms.specs.declared.clauses.Clause.{Clause}
 use Rattle.ag_unparse.specs.Canonical.{clauses_text}
 use Rattle.ag_print.specs.Canonical.{Spelled, name_at, sign_at, parts_words, more_parts, annex_bytes, annex_word}
 

@@ -9,9 +9,9 @@ use Rattle.ag_lex.specs.Rules.{IsFirstBroken}
 use Rattle.ag_aadl.specs.declared.packages.Item.{Item}
 use Rattle.ag_aadl.specs.declared.packages.Item.TheVariants as item
 use Rattle.ag_aadl.specs.declared.packages.Package.{Package}
-use Rattle.ag_annex.specs.declared.clauses.Clause.{Clause}
-use Rattle.ag_annex.specs.declared.clauses.Site.{Site}
-use Rattle.ag_annex.specs.declared.clauses.Site.TheVariants as site
+use Rattle.ag_terms.specs.declared.clauses.Clause.{Clause}
+use Rattle.ag_terms.specs.declared.clauses.Site.{Site}
+use Rattle.ag_terms.specs.declared.clauses.Site.TheVariants as site
 use Rattle.ag_annex.specs.Annexes.{IsAnnex, IsFirstWrong}
 
 -- what annexes state: for each package a list for each of its declarations of the clauses

@@ -5,8 +5,8 @@ use Rattle.std.specs.List.{AllZip, list_all}
 use Rattle.ag_lex.specs.declared.token.Token.{Token}
 use Rattle.ag_lex.specs.declared.token.TokenKind.TheVariants.{Name}
 use Rattle.ag_lex.specs.Spelling.{is_name}
-use Rattle.ag_aadl.specs.declared.packages.Path.{Path}
-use Rattle.ag_aadl.specs.declared.packages.Ident.{Ident}
+use Rattle.ag_terms.specs.declared.names.Path.{Path}
+use Rattle.ag_terms.specs.declared.names.Ident.{Ident}
 use Rattle.ag_aadl.specs.declared.packages.PortKind.{PortKind}
 use Rattle.ag_aadl.specs.declared.packages.PortKind.TheVariants as port_kind
 use Rattle.ag_aadl.specs.declared.packages.Port.{Port}
@@ -18,7 +18,7 @@ use Rattle.ag_aadl.specs.declared.packages.Body.{Body}
 use Rattle.ag_aadl.specs.declared.packages.Item.{Item}
 use Rattle.ag_aadl.specs.declared.packages.Item.TheVariants as item
 use Rattle.ag_aadl.specs.declared.packages.Package.{Package}
-use Rattle.ag_annex.specs.declared.clauses.Clause.{Clause}
+use Rattle.ag_terms.specs.declared.clauses.Clause.{Clause}
 use Rattle.ag_unparse.specs.Printable.{AreLabelsText}
 use Rattle.ag_unparse.specs.Rereading.{MayBePrinted}
 use Rattle.ag_print.specs.Annexes.{Stated, item_annexes, item_site}

@@ -2,7 +2,7 @@
 use Rattle.std.specs.Prelude.{◌≡◌, Bool, true, false, List, [], ◌∷◌, map, Option, Some, None}
 use Rattle.ag_lex.specs.declared.token.Token.{Token}
 use Rattle.ag_lex.specs.declared.token.TokenKind.TheVariants.{Name}
-use Rattle.ag_aadl.specs.declared.packages.Path.{Path}
+use Rattle.ag_terms.specs.declared.names.Path.{Path}
 use Rattle.ag_aadl.specs.declared.packages.Port.{Port}
 use Rattle.ag_aadl.specs.declared.packages.Frame.{Frame}
 use Rattle.ag_aadl.specs.declared.packages.Sub.{Sub}

@@ -1,6 +1,7 @@
 //! The annexes of packages, their tokens, and the clauses that they state.
 ghost use Rattle.std.specs.Prelude.{◌≡◌, ◌<◌, ◌^◌, ◌++◌, map, length, Err, IfOk, OnOk};
 ghost use Rattle.std.specs.List.{All, AllZip};
+ghost use Rattle.std.specs.Str.{IsUtf8};
 ghost use Rattle.ag_base.specs.declared.place.Refusal.{Refusal};
 ghost use Rattle.ag_base.specs.declared.place.Refused.TheVariants.{Model};
 ghost use Rattle.ag_print.specs.Annexes.{annexes_of_item, annexes_of_package, annexes_of_packages, IsTokenRefused, IsClauseRefused, IsAnnexRefused};
@@ -27,6 +28,7 @@ pub fn read_annexes(
     packages: &[Package],
 ) -> Result<List<List<Clause>>, Refused>
     requires short { length bytes.now < 2 ^ 31 }
+    requires text { IsUtf8 bytes.now }
     requires among { All (IsOneOf bytes.now) (annexes_of_packages packages.now) }
     ensures ok { IfOk result (λ clauses. AllZip (StatesThese bytes.now) (annexes_of_packages packages.now) clauses) }
     // The refusal is the first broken rule: first of the tokens of all, then of their grammar.
@@ -114,6 +116,7 @@ fn with_tokens(
 
 fn clauses_of(alloc: Global, bytes: &[u8], annexes: &[Annex]) -> Result<List<List<Clause>>, Refused>
     requires short { length bytes.now < 2 ^ 31 }
+    requires text { IsUtf8 bytes.now }
     requires read { All (IsRead bytes.now) annexes.now }
     ensures ok { IfOk result (λ clauses. AllZip (StatesThese bytes.now) (map placed annexes.now) clauses) }
     ensures refused { (r : Refusal) → result ≡ Err (Model r) → IsClauseRefused bytes.now (map placed annexes.now) r }

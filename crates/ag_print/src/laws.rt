@@ -35,6 +35,7 @@ pub fn files_are_printable()
 {
     ag_unparse::annexes_may_be_printed();
     ag_unparse::labels_are_text();
+    ag_lex::files_are_text();
 }
 
 /// The annexes of packages state one thing at most and get one refusal at most, and never both.

@@ -1,6 +1,7 @@
 //! Packages as canonical text.
 ghost use Rattle.std.specs.Prelude.{◌≡◌, ◌≤◌, length, ◌∷◌, [], ◌++◌, map, take, drop, codes, Err, OnOk, IfOk};
 ghost use Rattle.std.specs.List.{All, AllZip};
+ghost use Rattle.std.specs.Str.{IsUtf8};
 ghost use Rattle.ag_base.specs.declared.place.Refusal.{Refusal};
 ghost use Rattle.ag_base.specs.declared.place.Refused.TheVariants.{Model};
 ghost use Rattle.ag_aadl.specs.Marks.{features_mark, subcomponents_mark, connections_mark, close_mark, item_mark};
@@ -20,7 +21,7 @@ use ag_aadl::packages::{
 };
 use ag_annex::Clause;
 use ag_base::{Bytes, List, OutOfMemory, Refused};
-use ag_lex::Token;
+use ag_lex::{Token, files_are_text};
 use std::alloc::Global;
 
 /// The canonical text of a file's packages and of what their annexes state, or the first rule that the
@@ -36,12 +37,14 @@ pub fn print_file(alloc: Global, bytes: &[u8], packages: &[Package]) -> Result<B
     files_are_printable();
     canonical_rereads();
     annexes_reread();
+    files_are_text();
     print_packages(alloc, bytes, packages)
 }
 
 // The canonical text of packages, or the first rule that their annexes break.
 fn print_packages(alloc: Global, bytes: &[u8], packages: &[Package]) -> Result<Bytes, Refused>
     requires short { length bytes.now ≤ 4194304 }
+    requires text { IsUtf8 bytes.now }
     requires among { All (IsOneOf bytes.now) (annexes_of_packages packages.now) }
     ensures text { IfOk result (λ text. (stated : Stated) × PackagesState bytes.now packages.now stated × (text ≡ canonical_text packages.now stated)) }
     ensures refused { (r : Refusal) → result ≡ Err (Model r) → IsAnnexRefused bytes.now packages.now r }

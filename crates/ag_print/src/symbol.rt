@@ -3,7 +3,7 @@ ghost use Rattle.std.specs.Prelude.{◌≡◌};
 ghost use Rattle.ag_print.specs.Layout.{joins_before, joins_behind};
 ghost use Rattle.ag_print.specs.Written.{symbol_bytes, symbol_word};
 
-#[derive(Clone, Copy, Debug, PartialEq, Eq)]
+#[derive(Clone, Copy)]
 pub enum Symbol {
     /// `::`
     Colons,

@@ -15,7 +15,7 @@ use Rattle.std.proofs.lemmas.Cmp.{nat_list_cmp_total, same_from_slice_cmp}
 use Rattle.std.proofs.lemmas.List.{take_all, drop_all, nil_from_length, get_or-drop}
 use Rattle.std.proofs.lemmas.List.Elements.{filter_agree}
 use Rattle.std.proofs.lemmas.List.Sorted.{ranks_by, sorted_far}
-use Rattle.ag_aadl.specs.Words.{same}
+use Rattle.ag_terms.specs.Names.{same}
 use Rattle.ag_symbols.specs.Indexed.{folded, compare_names, is_below, first_by}
 
 -- ---- the order of names

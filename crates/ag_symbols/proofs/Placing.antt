@@ -4,10 +4,10 @@ use Rattle.std.specs.Prelude.{Option, Some, None, slice_get}
 use Rattle.std.specs.Option.{option_map}
 use Rattle.std.proofs.lemmas.Bool.{cases_Bool}
 use Rattle.std.proofs.lemmas.List.{drop_all}
-use Rattle.ag_aadl.specs.declared.packages.Ident.{Ident}
-use Rattle.ag_aadl.specs.Words.{same}
-use Rattle.ag_annex.specs.declared.clauses.NodeDef.{NodeDef}
-use Rattle.ag_annex.specs.declared.clauses.Var.{Var}
+use Rattle.ag_terms.specs.declared.names.Ident.{Ident}
+use Rattle.ag_terms.specs.Names.{same}
+use Rattle.ag_terms.specs.declared.clauses.NodeDef.{NodeDef}
+use Rattle.ag_terms.specs.declared.clauses.Var.{Var}
 use Rattle.ag_symbols.specs.Indexed.{first_by, found_first}
 use Rattle.ag_symbols.specs.Seen.{position, position_from, value_named, node_named, var_name, node_name}
 

@@ -4,7 +4,7 @@ use Rattle.std.specs.Char.{to_ascii_lowercase}
 use Rattle.std.specs.Cmp.Lexicographic.{slice_cmp}
 use Rattle.std.specs.Ordering.{nat_cmp, is_lt}
 use Rattle.std.specs.declared.cmp.Ordering.{Ordering}
-use Rattle.ag_aadl.specs.Words.{same}
+use Rattle.ag_terms.specs.Names.{same}
 
 -- a text in small letters
 abbrev pub folded : List ℕ → List ℕ

@@ -1,13 +1,13 @@
 -- The names that an annex sees: streams, constants and nodes, in any case of their letters.
 use Rattle.std.specs.Prelude.{ℕ, ◌+◌, ◌==◌, Bool, not, List, [], ◌∷◌, ◌++◌, Option, Some, None, is_none, codes, if◌then◌else◌}
 use Rattle.std.specs.List.{filter, flat_map, list_all}
-use Rattle.ag_aadl.specs.declared.packages.Ident.{Ident}
-use Rattle.ag_aadl.specs.declared.packages.Path.{Path}
-use Rattle.ag_aadl.specs.Words.{same}
-use Rattle.ag_annex.specs.declared.clauses.Clause.{Clause}
-use Rattle.ag_annex.specs.declared.clauses.Clause.TheVariants as clause
-use Rattle.ag_annex.specs.declared.clauses.NodeDef.{NodeDef}
-use Rattle.ag_annex.specs.declared.clauses.Var.{Var}
+use Rattle.ag_terms.specs.declared.names.Ident.{Ident}
+use Rattle.ag_terms.specs.declared.names.Path.{Path}
+use Rattle.ag_terms.specs.Names.{same}
+use Rattle.ag_terms.specs.declared.clauses.Clause.{Clause}
+use Rattle.ag_terms.specs.declared.clauses.Clause.TheVariants as clause
+use Rattle.ag_terms.specs.declared.clauses.NodeDef.{NodeDef}
+use Rattle.ag_terms.specs.declared.clauses.Var.{Var}
 
 -- the clauses of a package's own annexes, of a component type's and of an implementation's, and the streams that aren't declared there:
 -- those of own ports by their names, and those of subcomponents, of their ports and by `eq` of their types, as `c.x`
@@ -16,6 +16,10 @@ pub record Seen : Type 0 where
   pub frame : List Clause
   pub body : List Clause
   pub ports : List Var
+
+-- these four lists
+abbrev pub seen_of : List Clause → List Clause → List Clause → List Var → Seen
+seen_of library frame body ports = record { library = library; frame = frame; body = body; ports = ports }
 
 -- all clauses that are seen
 abbrev pub clauses_seen : Seen → List Clause

@@ -3,8 +3,8 @@ ghost use Rattle.std.specs.Prelude.{◌≡◌, ◌++◌, ◌==◌, not, map, OnO
 ghost use Rattle.std.specs.List.{flat_map, filter, list_all};
 ghost use Rattle.ag_symbols.specs.Seen.{is_own, eq_streams_in, constants_in, nodes_in};
 
-use ag_annex::{Clause, NodeDef, Var};
 use ag_base::OutOfMemory;
+use ag_terms::{Clause, NodeDef, Var};
 
 /// Adds streams or constants.
 pub fn push_vars<'a>(gathered: &mut Vec<&'a Var>, vars: &'a [Var]) -> Result<(), OutOfMemory>

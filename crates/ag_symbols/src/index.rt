@@ -4,8 +4,8 @@ ghost use Rattle.std.specs.List.Sorted.{IsSortedBy, IsPermutation};
 ghost use Rattle.ag_symbols.specs.Indexed.{compare_names, is_below, first_by};
 ghost use Rattle.ag_symbols.specs.Seen.{dotted};
 
-use ag_aadl::packages::Path;
 use ag_base::OutOfMemory;
+use ag_terms::Path;
 use std::cmp::Ordering;
 
 /// A name, and the position of what has it.

@@ -4,8 +4,7 @@ ghost use Rattle.std.specs.Option.{option_copied};
 ghost use Rattle.ag_symbols.specs.Seen.{Names, position, var_name, node_name, sought, value_of, node_of, constant_position, is_stream};
 
 use crate::table::{Nodes, Vars};
-use ag_aadl::packages::Path;
-use ag_annex::{NodeDef, Var};
+use ag_terms::{NodeDef, Path, Var};
 use std::marker::Model;
 
 /// The streams, constants and nodes that an expression may name. It is seen as these names.
@@ -18,7 +17,7 @@ pub struct Sight<'a> {
 
 impl<'a> Model for Sight<'a> {
     ghost use Rattle.std.specs.Coded.{codes};
-    ghost use Rattle.ag_annex.specs.contracts.terms.Term as term;
+    ghost use Rattle.ag_terms.specs.contracts.terms.Term as term;
     ghost use Rattle.ag_symbols.specs.Seen.{Names};
 
     ghost Value = { Names };

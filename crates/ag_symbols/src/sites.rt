@@ -1,13 +1,13 @@
 //! What the clauses of each site see.
 ghost use Rattle.std.specs.Prelude.{◌≡◌, ◌++◌, map, IfOk};
 ghost use Rattle.std.specs.List.{flat_map};
-ghost use Rattle.ag_symbols.specs.Seen.{Seen, names_at, library_names, frame_names, names_seen, node_vars, eq_streams_in, constants_in, nodes_in, targets};
+ghost use Rattle.ag_symbols.specs.Seen.{Seen, names_at, library_names, frame_names, names_seen, node_vars, eq_streams_in, constants_in, nodes_in, targets, seen_of};
 
 use crate::gather::{push_constants, push_nodes, push_own, push_streams, push_vars};
 use crate::sight::Sight;
 use crate::table::{Nodes, Vars};
-use ag_annex::{Clause, NodeDef, Var};
 use ag_base::OutOfMemory;
+use ag_terms::{Clause, NodeDef, Var};
 use std::alloc::Global;
 use std::marker::Model;
 
@@ -21,7 +21,7 @@ pub struct Site<'a> {
 
 impl<'a> Model for Site<'a> {
     ghost use Rattle.std.specs.Coded.{codes};
-    ghost use Rattle.ag_annex.specs.contracts.terms.Term as term;
+    ghost use Rattle.ag_terms.specs.contracts.terms.Term as term;
     ghost use Rattle.ag_symbols.specs.Seen.{Names};
 
     ghost Value = { Names };
@@ -93,9 +93,9 @@ impl<'a> Sites<'a> {
         body: &'a [Clause],
         ports: &'a [Var],
     ) -> Result<Sites<'a>, OutOfMemory>
-        ensures library { IfOk result (λ s. s.library ≡ library_names (record { library = library.now; frame = frame.now; body = body.now; ports = ports.now })) }
-        ensures frame { IfOk result (λ s. s.frame ≡ frame_names (record { library = library.now; frame = frame.now; body = body.now; ports = ports.now })) }
-        ensures body { IfOk result (λ s. s.body ≡ names_seen (record { library = library.now; frame = frame.now; body = body.now; ports = ports.now })) }
+        ensures library { IfOk result (λ s. s.library ≡ library_names (seen_of library.now frame.now body.now ports.now)) }
+        ensures frame { IfOk result (λ s. s.frame ≡ frame_names (seen_of library.now frame.now body.now ports.now)) }
+        ensures body { IfOk result (λ s. s.body ≡ names_seen (seen_of library.now frame.now body.now ports.now)) }
     {
         let mut own = Vec::new(alloc);
         push_own(&mut own, ports)?;
@@ -166,7 +166,7 @@ pub fn assign_targets<'a>(
     body: &'a [Clause],
     ports: &'a [Var],
 ) -> Result<Vars<'a>, OutOfMemory>
-    ensures { IfOk result (λ t. t ≡ targets (record { library = library.now; frame = frame.now; body = body.now; ports = ports.now })) }
+    ensures { IfOk result (λ t. t ≡ targets (seen_of library.now frame.now body.now ports.now)) }
 {
     let mut own = Vec::new(alloc);
     push_own(&mut own, ports)?;

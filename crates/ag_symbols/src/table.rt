@@ -4,14 +4,13 @@ ghost use Rattle.std.specs.List.Sorted.{IsSortedBy};
 ghost use Rattle.std.specs.Option.{option_copied};
 ghost use Rattle.std.specs.Coded.{codes};
 ghost use Rattle.std.proofs.Props.{props};
-ghost use Rattle.ag_annex.specs.contracts.terms.Term as term;
+ghost use Rattle.ag_terms.specs.contracts.terms.Term as term;
 ghost use Rattle.ag_symbols.specs.Indexed.{is_below, first_by, found_first};
 ghost use Rattle.ag_symbols.specs.Seen.{position, position_from, var_name, node_name, sought, value_named};
 
 use crate::index::{Slot, find, find_name, sort_names};
-use ag_aadl::packages::Path;
-use ag_annex::{NodeDef, Var};
 use ag_base::OutOfMemory;
+use ag_terms::{NodeDef, Path, Var};
 use std::alloc::Global;
 use std::marker::Model;
 
@@ -27,7 +26,7 @@ pub struct Vars<'a> {
 impl<'a> Model for Vars<'a> {
     ghost use Rattle.std.specs.Prelude.{List, map};
     ghost use Rattle.std.specs.Coded.{codes};
-    ghost use Rattle.ag_annex.specs.declared.clauses.Var.{Var};
+    ghost use Rattle.ag_terms.specs.declared.clauses.Var.{Var};
 
     ghost Value = { List Var };
 
@@ -120,8 +119,8 @@ pub struct Nodes<'a> {
 impl<'a> Model for Nodes<'a> {
     ghost use Rattle.std.specs.Prelude.{List, map};
     ghost use Rattle.std.specs.Coded.{codes};
-    ghost use Rattle.ag_annex.specs.contracts.terms.Term as term;
-    ghost use Rattle.ag_annex.specs.declared.clauses.NodeDef.{NodeDef};
+    ghost use Rattle.ag_terms.specs.contracts.terms.Term as term;
+    ghost use Rattle.ag_terms.specs.declared.clauses.NodeDef.{NodeDef};
 
     ghost Value = { List NodeDef };
 

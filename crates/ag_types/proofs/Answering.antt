@@ -1,16 +1,14 @@
 -- The first of what is broken, by parts.
-use Rattle.std.proofs.Common.{◌≡◌, zero, suc, Bool, true, false, List, [], ◌∷◌, refl, inl, inr, ap, sym, ◌∙◌, arith}
-use Rattle.std.specs.Prelude.{Option, Some, None, ◌⊎◌, Contains, if◌then◌else◌}
+use Rattle.std.proofs.Common.{◌≡◌, zero, suc, true, false, List, [], ◌∷◌, refl, inl, inr, ap, sym, ◌∙◌, arith}
+use Rattle.std.specs.Prelude.{Option, Some, None, ◌⊎◌, Contains}
 use Rattle.std.proofs.Math.Path.{subst}
 use Rattle.std.proofs.lemmas.Bool.{cases_Bool, true≢false}
 use Rattle.ag_base.specs.declared.place.Refusal.{Refusal}
-use Rattle.ag_types.specs.Answers.{comes_first, IsFirst}
+use Rattle.ag_base.specs.Rules.{comes_before}
+use Rattle.ag_types.specs.Answers.{IsFirst}
 use Rattle.ag_types.specs.Firsts.{either}
 use Rattle.ag_types.specs.Places.{first_broken}
-use Rattle.ag_types.proofs.Breaking.{comes_before, comes_before-trans, comes_before-skips, comes_before-by_place, comes_before-self, first_refusal-is, first_with-is}
-
-by_place : (r q : Refusal) → comes_first r q ≡ comes_before r q
-by_place r q = sym (comes_before-by_place q r)
+use Rattle.ag_types.proofs.Breaking.{comes_before-trans, comes_before-skips, comes_before-self, takes, keeps, first_with-is}
 
 -- where one comes before a second, what doesn't come before a third that the second comes before ..
 falls : (q s r : Refusal) → comes_before s r ≡ true → comes_before q r ≡ false → comes_before q s ≡ false
@@ -23,14 +21,14 @@ falls q s r e f =
 -- of two parts the first of their first ones
 pub first_of_two : (P Q : Refusal → Type 0) (a b : Option Refusal) → IsFirst P a → IsFirst Q b → IsFirst (λ q. P q ⊎ Q q) (either a b)
 first_of_two P Q None None f g = λ q h. elim h [ inl p ↦ f q p | inr p ↦ g q p ]
-first_of_two P Q None (Some s) f g = (inr g.0, λ q h. elim h [ inl p ↦ absurd (f q p) | inr p ↦ g.1 q p ])
-first_of_two P Q (Some r) None f g = (inl f.0, λ q h. elim h [ inl p ↦ f.1 q p | inr p ↦ absurd (g q p) ])
+first_of_two P Q None (Some s) f g = record { broken = inr g.broken; first = λ q h. elim h [ inl p ↦ absurd (f q p) | inr p ↦ g.first q p ] }
+first_of_two P Q (Some r) None f g = record { broken = inl f.broken; first = λ q h. elim h [ inl p ↦ f.first q p | inr p ↦ absurd (g q p) ] }
 first_of_two P Q (Some r) (Some s) f g =
     elim (cases_Bool (comes_before s r)) [
-      | inl e ↦ subst (λ (z : Option Refusal). IsFirst (λ q. P q ⊎ Q q) z) (sym (ap Some (first_refusal-is r s ∙ ap (λ (b : Bool). if b then s else r) e)))
-          (inr g.0, λ q h. elim h [ inl p ↦ by_place q s ∙ falls q s r e (sym (by_place q r) ∙ f.1 q p) | inr p ↦ g.1 q p ])
-      | inr e ↦ subst (λ (z : Option Refusal). IsFirst (λ q. P q ⊎ Q q) z) (sym (ap Some (first_refusal-is r s ∙ ap (λ (b : Bool). if b then s else r) e)))
-          (inl f.0, λ q h. elim h [ inl p ↦ f.1 q p | inr p ↦ by_place q r ∙ comes_before-skips q s r (sym (by_place q s) ∙ g.1 q p) e ])
+      | inl e ↦ subst (λ (z : Option Refusal). IsFirst (λ q. P q ⊎ Q q) z) (sym (ap Some (takes r s e)))
+          (record { broken = inr g.broken; first = λ q h. elim h [ inl p ↦ falls q s r e (f.first q p) | inr p ↦ g.first q p ] })
+      | inr e ↦ subst (λ (z : Option Refusal). IsFirst (λ q. P q ⊎ Q q) z) (sym (ap Some (keeps r s e)))
+          (record { broken = inl f.broken; first = λ q h. elim h [ inl p ↦ f.first q p | inr p ↦ comes_before-skips q s r (g.first q p) e ] })
     ]
 
 contains_here : {X : Type 0} (x : X) (xs : List X) → Contains (x ∷ xs) x
@@ -48,12 +46,12 @@ contains_none y h = absurd (omega (arith, h.1))
 
 -- what is only this is first
 alone : (r : Refusal) → IsFirst (λ q. r ≡ q) (Some r)
-alone r = (refl, λ q e. ap (λ z. comes_first z r) (sym e) ∙ by_place r r ∙ comes_before-self r)
+alone r = record { broken = refl; first = λ q e. ap (λ (z : Refusal). comes_before z r) (sym e) ∙ comes_before-self r }
 
 -- what holds of the same is first of the same
 pub first_of_same : (P Q : Refusal → Type 0) (a : Option Refusal) → ((q : Refusal) → P q → Q q) → ((q : Refusal) → Q q → P q) → IsFirst P a → IsFirst Q a
 first_of_same P Q None there back f = λ q h. f q (back q h)
-first_of_same P Q (Some r) there back f = (there r f.0, λ q h. f.1 q (back q h))
+first_of_same P Q (Some r) there back f = record { broken = there r f.broken; first = λ q h. f.first q (back q h) }
 
 -- the first broken rule of a list is the first of what is in it
 pub first_in : (xs : List Refusal) → IsFirst (Contains xs) (first_broken xs)

@@ -1,87 +1,79 @@
 -- The first broken rule of lists that follow each other.
-use Rattle.std.proofs.Common.{◌≡◌, ℕ, Bool, true, false, not, List, [], ◌∷◌, ◌++◌, refl, inl, inr, ap, sym, ◌∙◌, arith, nat_lt, nat_eq, ◌&&◌, ◌||◌}
+use Rattle.std.proofs.Common.{◌≡◌, ℕ, Bool, true, false, not, List, [], ◌∷◌, ◌++◌, refl, inl, inr, ap, sym, ◌∙◌, arith, nat_lt, ◌&&◌, ◌||◌}
 use Rattle.std.specs.Prelude.{Option, Some, None, if◌then◌else◌}
 use Rattle.std.proofs.lemmas.Bool.Decides.{nat_tests}
 use Rattle.std.proofs.lemmas.Bool.{cases_Bool}
 use Rattle.ag_base.specs.declared.place.Refusal.{Refusal}
+use Rattle.ag_base.specs.declared.place.Rule.{Rule}
+use Rattle.ag_base.specs.Rules.{by_first, is_before, rank, word_of, rule_before, comes_before}
 use Rattle.ag_types.specs.Firsts.{either}
-use Rattle.ag_types.specs.Places.{is_before, order_of, first_refusal, first_with, first_broken}
+use Rattle.ag_types.specs.Places.{first_refusal, first_with, first_broken}
 
--- the order of pairs, by a number and what decides where it is the same
-abbrev pub pairwise : ℕ → ℕ → Bool → Bool
-pairwise a b rest = nat_lt a b || (nat_eq a b && rest)
+by_first-trans : (a b c : ℕ) (p q r : Bool) → (p ≡ true → q ≡ true → r ≡ true) → by_first a b p ≡ true → by_first b c q ≡ true → by_first a c r ≡ true
+by_first-trans a b c p q r h e f = grind (arith, nat_tests)
 
-pairwise-trans : (a b c : ℕ) (p q r : Bool) → (p ≡ true → q ≡ true → r ≡ true) → pairwise a b p ≡ true → pairwise b c q ≡ true → pairwise a c r ≡ true
-pairwise-trans a b c p q r h e f = grind (arith, nat_tests)
-
-pub pairwise-skips : (a b c : ℕ) (p q r : Bool) → (p ≡ false → q ≡ false → r ≡ false) → pairwise a b p ≡ false → pairwise b c q ≡ false → pairwise a c r ≡ false
-pairwise-skips a b c p q r h e f = grind (arith, nat_tests)
-
--- where neither is first, the rest decides
-pairwise-last : (a b : ℕ) (o p q r : Bool) → o ≡ (p || (not q && r)) → pairwise a b o ≡ (pairwise a b p || (not (pairwise b a q) && r))
-pairwise-last a b o p q r h = grind (arith, nat_tests)
-
--- of two broken rules the second is answered only where it comes before the first
-pub comes_before : Refusal → Refusal → Bool
-comes_before s r = pairwise s.place.file r.place.file (pairwise s.place.line r.place.line (pairwise s.place.column r.place.column (nat_lt (order_of s.rule) (order_of r.rule))))
-
-nat_lt-trans : (a b c : ℕ) → nat_lt a b ≡ true → nat_lt b c ≡ true → nat_lt a c ≡ true
-nat_lt-trans a b c e f = grind (arith, nat_tests)
+pub by_first-skips : (a b c : ℕ) (p q r : Bool) → (p ≡ false → q ≡ false → r ≡ false) → by_first a b p ≡ false → by_first b c q ≡ false → by_first a c r ≡ false
+by_first-skips a b c p q r h e f = grind (arith, nat_tests)
 
 pub nat_lt-skips : (a b c : ℕ) → nat_lt a b ≡ false → nat_lt b c ≡ false → nat_lt a c ≡ false
 nat_lt-skips a b c e f = grind (arith, nat_tests)
 
+nat_lt-trans : (a b c : ℕ) → nat_lt a b ≡ true → nat_lt b c ≡ true → nat_lt a c ≡ true
+nat_lt-trans a b c e f = grind (arith, nat_tests)
+
+rule_before-trans : (p q r : Rule) → rule_before p q ≡ true → rule_before q r ≡ true → rule_before p r ≡ true
+rule_before-trans p q r = by_first-trans (rank p) (rank q) (rank r) _ _ _ (nat_lt-trans (word_of p) (word_of q) (word_of r))
+
 pub comes_before-trans : (r s t : Refusal) → comes_before r s ≡ true → comes_before s t ≡ true → comes_before r t ≡ true
-unfolding comes_before
 comes_before-trans r s t =
-    pairwise-trans r.place.file s.place.file t.place.file _ _ _
-    (pairwise-trans r.place.line s.place.line t.place.line _ _ _
-    (pairwise-trans r.place.column s.place.column t.place.column _ _ _
-    (nat_lt-trans (order_of r.rule) (order_of s.rule) (order_of t.rule))))
+    by_first-trans r.place.file s.place.file t.place.file _ _ _
+    (by_first-trans r.place.line s.place.line t.place.line _ _ _
+    (by_first-trans r.place.column s.place.column t.place.column _ _ _
+    (rule_before-trans r.rule s.rule t.rule)))
+
+-- what isn't before a second that isn't before a third isn't before that one
+rule_before-skips : (p q r : Rule) → rule_before p q ≡ false → rule_before q r ≡ false → rule_before p r ≡ false
+rule_before-skips p q r = by_first-skips (rank p) (rank q) (rank r) _ _ _ (nat_lt-skips (word_of p) (word_of q) (word_of r))
 
 pub comes_before-skips : (r s t : Refusal) → comes_before r s ≡ false → comes_before s t ≡ false → comes_before r t ≡ false
-unfolding comes_before
 comes_before-skips r s t =
-    pairwise-skips r.place.file s.place.file t.place.file _ _ _
-    (pairwise-skips r.place.line s.place.line t.place.line _ _ _
-    (pairwise-skips r.place.column s.place.column t.place.column _ _ _
-    (nat_lt-skips (order_of r.rule) (order_of s.rule) (order_of t.rule))))
+    by_first-skips r.place.file s.place.file t.place.file _ _ _
+    (by_first-skips r.place.line s.place.line t.place.line _ _ _
+    (by_first-skips r.place.column s.place.column t.place.column _ _ _
+    (rule_before-skips r.rule s.rule t.rule)))
 
-pairwise-self : (a : ℕ) (rest : Bool) → rest ≡ false → pairwise a a rest ≡ false
-pairwise-self a rest e = grind (arith, nat_tests)
+by_first-self : (a : ℕ) (further : Bool) → further ≡ false → by_first a a further ≡ false
+by_first-self a further e = grind (arith, nat_tests)
 
 nat_lt-self : (a : ℕ) → nat_lt a a ≡ false
 nat_lt-self a = grind (arith, nat_tests)
 
 -- nothing comes before itself
+pub rule_before-self : (p : Rule) → rule_before p p ≡ false
+rule_before-self p = by_first-self (rank p) _ (nat_lt-self (word_of p))
+
 pub comes_before-self : (r : Refusal) → comes_before r r ≡ false
-unfolding comes_before
-comes_before-self r = pairwise-self r.place.file _ (pairwise-self r.place.line _ (pairwise-self r.place.column _ (nat_lt-self (order_of r.rule))))
+comes_before-self r = by_first-self r.place.file _ (by_first-self r.place.line _ (by_first-self r.place.column _ (rule_before-self r.rule)))
+
+-- where neither is first, what is further known decides
+by_first-last : (a b : ℕ) (o p q r : Bool) → o ≡ (p || (not q && r)) → by_first a b o ≡ (by_first a b p || (not (by_first b a q) && r))
+by_first-last a b o p q r h = grind (arith, nat_tests)
 
 -- at one column the order of rules decides
-last_column : (a b : ℕ) (r : Bool) → pairwise a b r ≡ (nat_lt a b || (not (nat_lt b a) && r))
+last_column : (a b : ℕ) (r : Bool) → by_first a b r ≡ (nat_lt a b || (not (nat_lt b a) && r))
 last_column a b r = grind (arith, nat_tests)
 
-pub comes_before-by_place : (r s : Refusal) → comes_before s r ≡ (is_before s.place r.place || (not (is_before r.place s.place) && nat_lt (order_of s.rule) (order_of r.rule)))
-unfolding comes_before
+pub comes_before-by_place : (r s : Refusal) → comes_before s r ≡ (is_before s.place r.place || (not (is_before r.place s.place) && rule_before s.rule r.rule))
 comes_before-by_place r s =
-    pairwise-last s.place.file r.place.file _ _ _ (nat_lt (order_of s.rule) (order_of r.rule))
-    (pairwise-last s.place.line r.place.line _ _ _ (nat_lt (order_of s.rule) (order_of r.rule))
-    (last_column s.place.column r.place.column (nat_lt (order_of s.rule) (order_of r.rule))))
-
-chosen : (a b c : Bool) (r s : Refusal) → (if a then s else (if b then r else (if c then s else r))) ≡ (if a || (not b && c) then s else r)
-chosen true b c r s = refl
-chosen false true c r s = refl
-chosen false false c r s = refl
-
-pub first_refusal-is : (r s : Refusal) → first_refusal r s ≡ (if comes_before s r then s else r)
-first_refusal-is r s = chosen (is_before s.place r.place) (is_before r.place s.place) (nat_lt (order_of s.rule) (order_of r.rule)) r s ∙ rw (comes_before-by_place r s) refl
+    by_first-last s.place.file r.place.file _ _ _ (rule_before s.rule r.rule)
+    (by_first-last s.place.line r.place.line _ _ _ (rule_before s.rule r.rule)
+    (last_column s.place.column r.place.column (rule_before s.rule r.rule)))
 
 pub takes : (r s : Refusal) → comes_before s r ≡ true → first_refusal r s ≡ s
-takes r s e = first_refusal-is r s ∙ ap (λ (b : Bool). if b then s else r) e
+takes r s e = ap (λ (b : Bool). if b then s else r) e
 
 pub keeps : (r s : Refusal) → comes_before s r ≡ false → first_refusal r s ≡ r
-keeps r s e = first_refusal-is r s ∙ ap (λ (b : Bool). if b then s else r) e
+keeps r s e = ap (λ (b : Bool). if b then s else r) e
 
 first_refusal-assoc : (r s t : Refusal) → first_refusal (first_refusal r s) t ≡ first_refusal r (first_refusal s t)
 first_refusal-assoc r s t =

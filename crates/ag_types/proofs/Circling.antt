@@ -12,9 +12,9 @@ use Rattle.std.proofs.lemmas.Option.{slice_get-map, slice_get_within}
 use Rattle.ag_base.specs.declared.place.Place.{Place}
 use Rattle.ag_base.specs.declared.place.Refusal.{Refusal}
 use Rattle.ag_base.specs.declared.place.Rule.TheVariants.{NodeRecursion}
-use Rattle.ag_aadl.specs.declared.packages.Ident.{Ident}
-use Rattle.ag_annex.specs.declared.clauses.Clause.{Clause}
-use Rattle.ag_annex.specs.declared.clauses.Clause.TheVariants as clause
+use Rattle.ag_terms.specs.declared.names.Ident.{Ident}
+use Rattle.ag_terms.specs.declared.clauses.Clause.{Clause}
+use Rattle.ag_terms.specs.declared.clauses.Clause.TheVariants as clause
 use Rattle.ag_graph.specs.Circles.{AreCircles}
 use Rattle.ag_symbols.specs.Seen.{Seen, Names, clauses_seen, nodes_in, library_names, frame_names, names_seen, over_sites}
 use Rattle.ag_types.specs.Answers.{IsFirst}

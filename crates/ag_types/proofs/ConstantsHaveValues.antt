@@ -5,14 +5,14 @@ use Rattle.std.proofs.lemmas.Bool.{cases_lt}
 use Rattle.std.proofs.lemmas.List.{get_or_past}
 use Rattle.std.proofs.lemmas.List.Elements.{Contains-append_left, Contains-append_right}
 use Rattle.ag_base.specs.declared.place.Place.{Place}
-use Rattle.ag_aadl.specs.Words.{same}
-use Rattle.ag_annex.specs.declared.clauses.Ty.{Ty}
-use Rattle.ag_annex.specs.declared.clauses.Ty.TheVariants.{Int, Bool as Boolean}
-use Rattle.ag_annex.specs.declared.clauses.Var.{Var}
-use Rattle.ag_annex.specs.declared.terms.Binary.{Binary}
-use Rattle.ag_annex.specs.declared.terms.Binary.TheVariants as binary
-use Rattle.ag_annex.specs.declared.terms.Term.{Term, Number, Truth, Named, Unary', Binary', Choice', Call', end_of-Term, more_of-Term}
-use Rattle.ag_annex.specs.declared.terms.Unary.TheVariants as unary
+use Rattle.ag_terms.specs.Names.{same}
+use Rattle.ag_terms.specs.declared.clauses.Ty.{Ty}
+use Rattle.ag_terms.specs.declared.clauses.Ty.TheVariants.{Int, Bool as Boolean}
+use Rattle.ag_terms.specs.declared.clauses.Var.{Var}
+use Rattle.ag_terms.specs.declared.terms.Binary.{Binary}
+use Rattle.ag_terms.specs.declared.terms.Binary.TheVariants as binary
+use Rattle.ag_terms.specs.declared.terms.Term.{Term, Number, Truth, Named, Unary', Binary', Choice', Call', end_of-Term, more_of-Term}
+use Rattle.ag_terms.specs.declared.terms.Unary.TheVariants as unary
 use Rattle.ag_symbols.specs.Seen.{Names, sought, position, position_from, value_named, var_name, is_stream, constant_position}
 use Rattle.ag_linear.specs.declared.value.Value.{Value}
 use Rattle.ag_linear.specs.declared.value.Value.TheVariants as value

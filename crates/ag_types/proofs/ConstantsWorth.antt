@@ -3,9 +3,9 @@ use Rattle.std.proofs.Common.{◌≡◌, ℕ, ◌<◌, ℤ, List, [], ◌∷◌,
 use Rattle.std.specs.Prelude.{Option, Some, None, slice_get, slice_index_or}
 use Rattle.std.proofs.lemmas.Option.{slice_get-map, slice_get_within}
 use Rattle.ag_base.specs.declared.place.Refusal.{Refusal}
-use Rattle.ag_annex.specs.declared.clauses.Ty.{Ty}
-use Rattle.ag_annex.specs.declared.clauses.Ty.TheVariants.{Int, Bool as Boolean}
-use Rattle.ag_annex.specs.declared.clauses.Var.{Var}
+use Rattle.ag_terms.specs.declared.clauses.Ty.{Ty}
+use Rattle.ag_terms.specs.declared.clauses.Ty.TheVariants.{Int, Bool as Boolean}
+use Rattle.ag_terms.specs.declared.clauses.Var.{Var}
 use Rattle.ag_graph.specs.Circles.{IsOnCircle}
 use Rattle.ag_symbols.specs.Seen.{Seen, names_seen}
 use Rattle.ag_linear.specs.declared.value.Value.{Value}

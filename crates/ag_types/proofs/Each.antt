@@ -6,8 +6,8 @@ use Rattle.std.proofs.lemmas.Bool.{cases_Bool}
 use Rattle.std.proofs.lemmas.Grind.{flat_map-append}
 use Rattle.std.proofs.lemmas.List.{drop_all}
 use Rattle.ag_base.specs.declared.place.Refusal.{Refusal}
-use Rattle.ag_aadl.specs.Words.{same}
-use Rattle.ag_annex.specs.declared.clauses.Equal.{Equal}
+use Rattle.ag_terms.specs.Names.{same}
+use Rattle.ag_terms.specs.declared.clauses.Equal.{Equal}
 use Rattle.ag_symbols.specs.Indexed.{first_by}
 use Rattle.ag_types.specs.Firsts.{either}
 use Rattle.ag_types.specs.Places.{first_broken}

@@ -13,37 +13,37 @@ use Rattle.std.proofs.lemmas.Cmp.{nat_cmp_total, nat_list_cmp_total, on_total, t
 use Rattle.std.proofs.lemmas.List.{get_or-map, length-map}
 use Rattle.std.proofs.lemmas.List.Sorted.{ranks_by, sorted_far}
 use Rattle.ag_base.specs.declared.place.Place.{Place}
-use Rattle.ag_aadl.specs.declared.packages.Ident.{Ident}
-use Rattle.ag_aadl.specs.Words.{same}
+use Rattle.ag_terms.specs.declared.names.Ident.{Ident}
+use Rattle.ag_terms.specs.Names.{same}
 use Rattle.ag_symbols.specs.Indexed.{folded, compare_names, is_below, first_by}
 use Rattle.ag_symbols.proofs.Orders.{equal, same_is_equal}
 use Rattle.ag_linear.proofs.Merges.{both_hold}
 use Rattle.ag_types.specs.ClauseFaults.{is_declared_before}
 use Rattle.ag_types.specs.Earliest.{stands_before, any_before, compare_places, compare_idents, is_in_front, is_behind, IsNext}
-use Rattle.ag_types.specs.Places.{is_before}
-use Rattle.ag_types.proofs.Breaking.{pairwise, pairwise-skips, nat_lt-skips}
+use Rattle.ag_base.specs.Rules.{by_first, is_before}
+use Rattle.ag_types.proofs.Breaking.{by_first-skips, nat_lt-skips}
 
 -- ---- the order of places
 
-pairwise-one_way : (a b : ℕ) (p q : Bool) → (p ≡ true → q ≡ false) → pairwise a b p ≡ true → pairwise b a q ≡ false
-pairwise-one_way a b p q h e = grind (arith, nat_tests)
+by_first-one_way : (a b : ℕ) (p q : Bool) → (p ≡ true → q ≡ false) → by_first a b p ≡ true → by_first b a q ≡ false
+by_first-one_way a b p q h e = grind (arith, nat_tests)
 
 nat_lt-one_way : (a b : ℕ) → nat_lt a b ≡ true → nat_lt b a ≡ false
 nat_lt-one_way a b e = grind (arith, nat_tests)
 
 pub before-one_way : (p q : Place) → is_before p q ≡ true → is_before q p ≡ false
 before-one_way p q =
-    pairwise-one_way p.file q.file _ _
-    (pairwise-one_way p.line q.line _ _
+    by_first-one_way p.file q.file _ _
+    (by_first-one_way p.line q.line _ _
     (nat_lt-one_way p.column q.column))
 
 pub before-skips : (p q r : Place) → is_before p q ≡ false → is_before q r ≡ false → is_before p r ≡ false
 before-skips p q r =
-    pairwise-skips p.file q.file r.file _ _ _
-    (pairwise-skips p.line q.line r.line _ _ _
+    by_first-skips p.file q.file r.file _ _ _
+    (by_first-skips p.line q.line r.line _ _ _
     (nat_lt-skips p.column q.column r.column))
 
-then_less : (a b : ℕ) (o : Ordering) → is_lt (ordering_then (nat_cmp a b) o) ≡ pairwise a b (is_lt o)
+then_less : (a b : ℕ) (o : Ordering) → is_lt (ordering_then (nat_cmp a b) o) ≡ by_first a b (is_lt o)
 then_less a b o = grind (arith, nat_tests)
 
 last_less : (a b : ℕ) → is_lt (nat_cmp a b) ≡ nat_lt a b
@@ -52,7 +52,7 @@ last_less a b = grind (arith, nat_tests)
 before_is : (p q : Place) → is_lt (compare_places p q) ≡ is_before p q
 before_is p q =
     then_less p.file q.file (ordering_then (nat_cmp p.line q.line) (nat_cmp p.column q.column))
-    ∙ ap (pairwise p.file q.file) (then_less p.line q.line (nat_cmp p.column q.column) ∙ ap (pairwise p.line q.line) (last_less p.column q.column))
+    ∙ ap (by_first p.file q.file) (then_less p.line q.line (nat_cmp p.column q.column) ∙ ap (by_first p.line q.line) (last_less p.column q.column))
 
 -- ---- the order of names with their places
 

@@ -7,8 +7,9 @@ use Rattle.std.proofs.lemmas.Bool.Decides.{nat_tests}
 use Rattle.ag_base.specs.declared.place.Place.{Place}
 use Rattle.ag_base.specs.declared.place.Refusal.{Refusal}
 use Rattle.ag_base.specs.declared.place.Rule.{Rule}
-use Rattle.ag_types.specs.Places.{is_before, order_of, first_refusal, first_with, first_broken}
-use Rattle.ag_types.proofs.Breaking.{comes_before, comes_before-by_place, takes, keeps, unbroken, pairwise}
+use Rattle.ag_base.specs.Rules.{by_first, is_before, comes_before}
+use Rattle.ag_types.specs.Places.{first_refusal, first_with, first_broken}
+use Rattle.ag_types.proofs.Breaking.{comes_before-by_place, rule_before-self, takes, keeps, unbroken}
 use Rattle.ag_types.proofs.EarliestNames.{before-one_way, before-skips}
 
 -- ---- what stands in a list
@@ -59,9 +60,6 @@ or_none true b = refl
 or_none false true = refl
 or_none false false = refl
 
-less_itself : (n : ℕ) → nat_lt n n ≡ false
-less_itself n = grind (arith, nat_tests)
-
 before_itself : (p : Place) → is_before p p ≡ false
 before_itself p =
     elim (cases_Bool (is_before p p)) [
@@ -73,7 +71,7 @@ before_itself p =
 by_place : (rule : Rule) (r s : Refusal) → r.rule ≡ rule → s.rule ≡ rule → comes_before s r ≡ is_before s.place r.place
 by_place rule r s e f =
     comes_before-by_place r s
-    ∙ ap (λ (z : Bool). is_before s.place r.place || (not (is_before r.place s.place) && z)) (rw (e, f) (less_itself (order_of rule)))
+    ∙ ap (λ (z : Bool). is_before s.place r.place || (not (is_before r.place s.place) && z)) (rw (e, f) (rule_before-self rule))
     ∙ or_none (is_before s.place r.place) (not (is_before r.place s.place))
 
 first_of_two : (q s : Refusal) → (first_refusal q s ≡ q) ⊎ (first_refusal q s ≡ s)
@@ -126,7 +124,7 @@ first_is_least rule (p ∷ xs) all r e q m =
 
 -- ---- places of which neither is before the other are the same
 
-level : (a b : ℕ) (p q : Bool) → pairwise a b p ≡ false → pairwise b a q ≡ false → (a ≡ b) × (p ≡ false) × (q ≡ false)
+level : (a b : ℕ) (p q : Bool) → by_first a b p ≡ false → by_first b a q ≡ false → (a ≡ b) × (p ≡ false) × (q ≡ false)
 level a b p q e f = (grind (arith, nat_tests), grind (arith, nat_tests), grind (arith, nat_tests))
 
 last_level : (a b : ℕ) → nat_lt a b ≡ false → nat_lt b a ≡ false → a ≡ b

@@ -21,9 +21,6 @@ pub mod Numbering
 pub mod Once
 pub mod OneRefusal
 pub mod Positions
-pub mod Ranks
-pub mod RulesOfNumbers
-pub mod RulesOfTypes
 pub mod Sound
 pub mod Summing
 pub mod SumsHaveRows

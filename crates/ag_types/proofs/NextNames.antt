@@ -6,11 +6,12 @@ use Rattle.std.proofs.lemmas.List.{drop_all}
 use Rattle.std.proofs.lemmas.List.Sorted.{Contains-permutation, IsPermutation-sym}
 use Rattle.ag_base.specs.declared.place.Refusal.{Refusal}
 use Rattle.ag_base.specs.declared.place.Rule.TheVariants.{Twice}
-use Rattle.ag_aadl.specs.declared.packages.Ident.{Ident}
+use Rattle.ag_terms.specs.declared.names.Ident.{Ident}
 use Rattle.ag_types.specs.ClauseFaults.{is_declared_before, twice, twice_among}
 use Rattle.ag_types.specs.Earliest.{is_behind, IsNext}
 use Rattle.ag_types.specs.Firsts.{either}
-use Rattle.ag_types.specs.Places.{is_before, first_broken}
+use Rattle.ag_base.specs.Rules.{is_before}
+use Rattle.ag_types.specs.Places.{first_broken}
 use Rattle.ag_types.proofs.Breaking.{either-assoc, either-none, first_broken-append}
 use Rattle.ag_symbols.proofs.Placing.{split_at}
 use Rattle.ag_types.proofs.Leasts.{Member, AreAll, member_left, member_right, member_cases, member_from, member_to, least_is_first, same_members}

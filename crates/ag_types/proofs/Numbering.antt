@@ -6,16 +6,16 @@ use Rattle.std.proofs.lemmas.Bool.{cases_Bool, ltb-true, ltb-false}
 use Rattle.std.proofs.lemmas.List.{get_or_past}
 use Rattle.ag_base.specs.declared.place.Place.{Place}
 use Rattle.ag_base.specs.declared.place.Refusal.{Refusal}
-use Rattle.ag_aadl.specs.declared.packages.Path.{Path}
-use Rattle.ag_annex.specs.declared.clauses.Ty.{Ty}
-use Rattle.ag_annex.specs.declared.clauses.Ty.TheVariants.{Int, Bool as Boolean}
-use Rattle.ag_annex.specs.declared.terms.Binary.{Binary}
-use Rattle.ag_annex.specs.declared.terms.Binary.TheVariants as binary
-use Rattle.ag_annex.specs.declared.terms.Unary.{Unary}
-use Rattle.ag_annex.specs.declared.terms.Unary.TheVariants as unary
-use Rattle.ag_annex.specs.declared.terms.Term.{Term, Named, Row_of-Term, end_of-Term, more_of-Term, items-the_row-Term, items_hidden-the_row-Term-1}
-use Rattle.ag_annex.specs.declared.terms.Term.TheBlock.{hidden-the_row-Term-0, hidden-the_row-Term-1}
-use Rattle.ag_annex.specs.declared.terms.Term.TheViews as term
+use Rattle.ag_terms.specs.declared.names.Path.{Path}
+use Rattle.ag_terms.specs.declared.clauses.Ty.{Ty}
+use Rattle.ag_terms.specs.declared.clauses.Ty.TheVariants.{Int, Bool as Boolean}
+use Rattle.ag_terms.specs.declared.terms.Binary.{Binary}
+use Rattle.ag_terms.specs.declared.terms.Binary.TheVariants as binary
+use Rattle.ag_terms.specs.declared.terms.Unary.{Unary}
+use Rattle.ag_terms.specs.declared.terms.Unary.TheVariants as unary
+use Rattle.ag_terms.specs.declared.terms.Term.{Term, Named, Row_of-Term, end_of-Term, more_of-Term, items-the_row-Term, items_hidden-the_row-Term-1}
+use Rattle.ag_terms.specs.declared.terms.Term.TheBlock.{hidden-the_row-Term-0, hidden-the_row-Term-1}
+use Rattle.ag_terms.specs.declared.terms.Term.TheViews as term
 use Rattle.ag_symbols.specs.Seen.{Names, node_of, sought, constant_position}
 use Rattle.ag_linear.specs.declared.value.Value.{Value}
 use Rattle.ag_linear.specs.declared.value.Value.TheVariants as value

@@ -2,11 +2,11 @@
 use denote.Hole.Carrier.{hidden}
 use Rattle.std.proofs.Common.{◌≡◌, Bool, true, false, not, ◌&&◌, ◌||◌, refl, sym, ◌∙◌}
 use Rattle.ag_base.specs.declared.place.Place.{Place}
-use Rattle.ag_annex.specs.declared.terms.Binary.{Binary}
-use Rattle.ag_annex.specs.declared.terms.Unary.TheVariants as unary
-use Rattle.ag_annex.specs.declared.terms.Term.{Term, Number, Truth, Named, Unary', Binary', Choice', Call', end_of-Term, more_of-Term}
-use Rattle.ag_annex.specs.declared.terms.Term.TheBlock.{hidden-the_row-Term-0}
-use Rattle.ag_annex.specs.declared.terms.Term.TheViews as term
+use Rattle.ag_terms.specs.declared.terms.Binary.{Binary}
+use Rattle.ag_terms.specs.declared.terms.Unary.TheVariants as unary
+use Rattle.ag_terms.specs.declared.terms.Term.{Term, Number, Truth, Named, Unary', Binary', Choice', Call', end_of-Term, more_of-Term}
+use Rattle.ag_terms.specs.declared.terms.Term.TheBlock.{hidden-the_row-Term-0}
+use Rattle.ag_terms.specs.declared.terms.Term.TheViews as term
 use Rattle.ag_symbols.specs.Seen.{Names}
 use Rattle.ag_types.specs.ClauseFirsts.{is_arrow}
 use Rattle.ag_types.specs.Constants.{is_varying}

@@ -6,13 +6,14 @@ use Rattle.std.proofs.lemmas.List.Folds.{list_any-append}
 use Rattle.std.proofs.lemmas.List.Sorted.{list_any-IsPermutation}
 use Rattle.ag_base.specs.declared.place.Refusal.{Refusal}
 use Rattle.ag_base.specs.declared.place.Rule.TheVariants.{Twice}
-use Rattle.ag_aadl.specs.declared.packages.Ident.{Ident}
-use Rattle.ag_aadl.specs.Words.{same}
-use Rattle.ag_annex.specs.declared.clauses.NodeDef.{NodeDef}
+use Rattle.ag_terms.specs.declared.names.Ident.{Ident}
+use Rattle.ag_terms.specs.Names.{same}
+use Rattle.ag_terms.specs.declared.clauses.NodeDef.{NodeDef}
 use Rattle.ag_symbols.specs.Seen.{Names, node_vars}
 use Rattle.ag_types.specs.ClauseFaults.{is_declared_before, node_sees, node_twice, twice, twice_among, var_names}
 use Rattle.ag_types.specs.Firsts.{either}
-use Rattle.ag_types.specs.Places.{is_before, first_broken}
+use Rattle.ag_base.specs.Rules.{is_before}
+use Rattle.ag_types.specs.Places.{first_broken}
 use Rattle.ag_types.proofs.Breaking.{first_broken-append}
 use Rattle.ag_types.proofs.NextNames.{twice_permuted}
 

@@ -5,16 +5,16 @@ use Rattle.std.specs.Prelude.{Option, Some, None}
 use Rattle.std.proofs.lemmas.List.{drop_all}
 use Rattle.ag_base.specs.declared.place.Place.{Place}
 use Rattle.ag_base.specs.declared.place.Refusal.{Refusal}
-use Rattle.ag_aadl.specs.declared.packages.Path.{Path}
-use Rattle.ag_annex.specs.declared.clauses.NodeDef.{NodeDef}
-use Rattle.ag_annex.specs.declared.clauses.Ty.TheVariants.{Bool as Boolean}
-use Rattle.ag_annex.specs.declared.clauses.Var.{Var}
-use Rattle.ag_annex.specs.declared.terms.Binary.{Binary}
-use Rattle.ag_annex.specs.declared.terms.Unary.{Unary}
-use Rattle.ag_annex.specs.declared.terms.Unary.TheVariants as unary
-use Rattle.ag_annex.specs.declared.terms.Term.{Term, Row_of-Term, end_of-Term, more_of-Term, items-the_row-Term, items_hidden-the_row-Term-1}
-use Rattle.ag_annex.specs.declared.terms.Term.TheBlock.{hidden-the_row-Term-0, hidden-the_row-Term-1}
-use Rattle.ag_annex.specs.declared.terms.Term.TheViews as term
+use Rattle.ag_terms.specs.declared.names.Path.{Path}
+use Rattle.ag_terms.specs.declared.clauses.NodeDef.{NodeDef}
+use Rattle.ag_terms.specs.declared.clauses.Ty.TheVariants.{Bool as Boolean}
+use Rattle.ag_terms.specs.declared.clauses.Var.{Var}
+use Rattle.ag_terms.specs.declared.terms.Binary.{Binary}
+use Rattle.ag_terms.specs.declared.terms.Unary.{Unary}
+use Rattle.ag_terms.specs.declared.terms.Unary.TheVariants as unary
+use Rattle.ag_terms.specs.declared.terms.Term.{Term, Row_of-Term, end_of-Term, more_of-Term, items-the_row-Term, items_hidden-the_row-Term-1}
+use Rattle.ag_terms.specs.declared.terms.Term.TheBlock.{hidden-the_row-Term-0, hidden-the_row-Term-1}
+use Rattle.ag_terms.specs.declared.terms.Term.TheViews as term
 use Rattle.ag_symbols.specs.Seen.{Names, node_of}
 use Rattle.ag_types.specs.Firsts.{either, type_of_unary, needed_alone, first_mismatch, mismatches_in, faults_among, inputs_of, first_of_call}
 use Rattle.ag_types.specs.Places.{first_place, first_broken, path_place, earlier}

@@ -6,8 +6,8 @@ use Rattle.std.proofs.lemmas.List.{get_or_past}
 use Rattle.std.proofs.lemmas.List.Elements.{Contains-append_left, Contains-append_right}
 use Rattle.ag_base.specs.declared.place.Place.{Place}
 use Rattle.ag_base.specs.declared.place.Refusal.{Refusal}
-use Rattle.ag_annex.specs.declared.terms.Binary.{Binary}
-use Rattle.ag_annex.specs.declared.terms.Term.{Term, Number, Truth, Named, Unary', Binary', Choice', Call', Row_of-Term, end_of-Term, more_of-Term}
+use Rattle.ag_terms.specs.declared.terms.Binary.{Binary}
+use Rattle.ag_terms.specs.declared.terms.Term.{Term, Number, Truth, Named, Unary', Binary', Choice', Call', Row_of-Term, end_of-Term, more_of-Term}
 use Rattle.ag_symbols.specs.Seen.{Names, sought, position, node_name, constant_position}
 use Rattle.ag_linear.specs.declared.value.Value.{Value}
 use Rattle.ag_linear.specs.declared.value.Value.TheVariants as value

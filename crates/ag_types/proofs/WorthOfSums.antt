@@ -2,8 +2,8 @@
 use Rattle.std.proofs.Common.{◌≡◌, ℕ, zero, suc, ℤ, pos, ◌+ℤ◌, ◌*ℤ◌, ◌-ℤ◌, Bool, true, false, not, List, [], ◌∷◌, ◌++◌, map, refl, ap, subst, arith}
 use Rattle.std.specs.Prelude.{negsuc, Option, Some, None, slice_get, if◌then◌else◌}
 use Rattle.std.proofs.lemmas.Int.{ints}
-use Rattle.ag_annex.specs.declared.clauses.Var.{Var}
-use Rattle.ag_annex.specs.declared.terms.Term.{Term}
+use Rattle.ag_terms.specs.declared.clauses.Var.{Var}
+use Rattle.ag_terms.specs.declared.terms.Term.{Term}
 use Rattle.ag_linear.specs.declared.value.Factor.{Factor}
 use Rattle.ag_linear.specs.declared.value.Value.{Value}
 use Rattle.ag_linear.specs.declared.value.Value.TheVariants as value

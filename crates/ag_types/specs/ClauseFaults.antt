@@ -4,19 +4,20 @@ use Rattle.std.specs.List.{flat_map, list_any}
 use Rattle.ag_base.specs.declared.place.Place.{Place}
 use Rattle.ag_base.specs.declared.place.Refusal.{Refusal}
 use Rattle.ag_base.specs.declared.place.Rule.TheVariants.{Twice, TwoSources, Mismatch, Arity}
-use Rattle.ag_aadl.specs.declared.packages.Ident.{Ident}
-use Rattle.ag_aadl.specs.declared.packages.Path.{Path}
-use Rattle.ag_aadl.specs.Words.{same}
-use Rattle.ag_annex.specs.declared.clauses.Clause.{Clause}
-use Rattle.ag_annex.specs.declared.clauses.Clause.TheVariants as clause
-use Rattle.ag_annex.specs.declared.clauses.Equal.{Equal}
-use Rattle.ag_annex.specs.declared.clauses.Labelled.{Labelled}
-use Rattle.ag_annex.specs.declared.clauses.NodeDef.{NodeDef}
-use Rattle.ag_annex.specs.declared.clauses.Ty.TheVariants.{Bool as Boolean}
-use Rattle.ag_annex.specs.declared.clauses.Var.{Var}
-use Rattle.ag_annex.specs.declared.terms.Term.{Term, Call', Row_of-Term}
+use Rattle.ag_terms.specs.declared.names.Ident.{Ident}
+use Rattle.ag_terms.specs.declared.names.Path.{Path}
+use Rattle.ag_terms.specs.Names.{same}
+use Rattle.ag_terms.specs.declared.clauses.Clause.{Clause}
+use Rattle.ag_terms.specs.declared.clauses.Clause.TheVariants as clause
+use Rattle.ag_terms.specs.declared.clauses.Equal.{Equal}
+use Rattle.ag_terms.specs.declared.clauses.Labelled.{Labelled}
+use Rattle.ag_terms.specs.declared.clauses.NodeDef.{NodeDef}
+use Rattle.ag_terms.specs.declared.clauses.Ty.TheVariants.{Bool as Boolean}
+use Rattle.ag_terms.specs.declared.clauses.Var.{Var}
+use Rattle.ag_terms.specs.declared.terms.Term.{Term, Call', Row_of-Term}
 use Rattle.ag_symbols.specs.Seen.{Seen, Names, clauses_seen, node_vars, names_of_node, over_sites, value_named, node_of, targets}
-use Rattle.ag_types.specs.Places.{is_before, path_place, first_place}
+use Rattle.ag_base.specs.Rules.{is_before}
+use Rattle.ag_types.specs.Places.{path_place, first_place}
 use Rattle.ag_types.specs.Constants.{is_varying}
 use Rattle.ag_types.specs.Types.{type_in, faults_in, mismatch, arity, unknown, argument_mismatches, arguments_in, faults_in_all}
 

@@ -4,10 +4,10 @@ use Rattle.std.specs.List.{Contains, list_any}
 use Rattle.std.specs.Ordering.{nat_cmp, is_lt, ordering_then}
 use Rattle.std.specs.declared.cmp.Ordering.{Ordering}
 use Rattle.ag_base.specs.declared.place.Place.{Place}
-use Rattle.ag_aadl.specs.declared.packages.Ident.{Ident}
-use Rattle.ag_aadl.specs.Words.{same}
+use Rattle.ag_terms.specs.declared.names.Ident.{Ident}
+use Rattle.ag_terms.specs.Names.{same}
 use Rattle.ag_symbols.specs.Indexed.{compare_names}
-use Rattle.ag_types.specs.Places.{is_before}
+use Rattle.ag_base.specs.Rules.{is_before}
 
 -- the name stands at an earlier place
 abbrev pub stands_before : Option Ident → Place → Bool

@@ -4,15 +4,15 @@ use Rattle.std.specs.List.{flat_map}
 use Rattle.ag_base.specs.declared.place.Place.{Place}
 use Rattle.ag_base.specs.declared.place.Refusal.{Refusal}
 use Rattle.ag_base.specs.declared.place.Rule.TheVariants.{NotLinear, BadDivisor, Coefficient}
-use Rattle.ag_annex.specs.declared.clauses.Clause.{Clause}
-use Rattle.ag_annex.specs.declared.clauses.Clause.TheVariants as clause
-use Rattle.ag_annex.specs.declared.clauses.Equal.{Equal}
-use Rattle.ag_annex.specs.declared.clauses.Ty.TheVariants.{Int}
-use Rattle.ag_annex.specs.declared.terms.Binary.{Binary}
-use Rattle.ag_annex.specs.declared.terms.Binary.TheVariants as binary
-use Rattle.ag_annex.specs.declared.terms.Term.{Term, Number, Truth, Named, Unary', Binary', Choice', Call', Row_of-Term, end_of-Term, more_of-Term}
-use Rattle.ag_annex.specs.declared.terms.Unary.{Unary}
-use Rattle.ag_annex.specs.declared.terms.Unary.TheVariants as unary
+use Rattle.ag_terms.specs.declared.clauses.Clause.{Clause}
+use Rattle.ag_terms.specs.declared.clauses.Clause.TheVariants as clause
+use Rattle.ag_terms.specs.declared.clauses.Equal.{Equal}
+use Rattle.ag_terms.specs.declared.clauses.Ty.TheVariants.{Int}
+use Rattle.ag_terms.specs.declared.terms.Binary.{Binary}
+use Rattle.ag_terms.specs.declared.terms.Binary.TheVariants as binary
+use Rattle.ag_terms.specs.declared.terms.Term.{Term, Number, Truth, Named, Unary', Binary', Choice', Call', Row_of-Term, end_of-Term, more_of-Term}
+use Rattle.ag_terms.specs.declared.terms.Unary.{Unary}
+use Rattle.ag_terms.specs.declared.terms.Unary.TheVariants as unary
 use Rattle.ag_symbols.specs.Seen.{Seen, Names, names_of_node, over_sites}
 use Rattle.ag_linear.specs.declared.value.Value.{Value}
 use Rattle.ag_linear.specs.declared.value.Value.TheVariants as value

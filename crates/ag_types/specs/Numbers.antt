@@ -1,6 +1,6 @@
 -- How many integer streams stand before each stream.
 use Rattle.std.specs.Prelude.{ℕ, ◌+◌, List, [], ◌∷◌, if◌then◌else◌}
-use Rattle.ag_annex.specs.declared.clauses.Var.{Var}
+use Rattle.ag_terms.specs.declared.clauses.Var.{Var}
 use Rattle.ag_types.specs.Sums.{is_whole}
 
 -- for each of these streams the number of integer streams before it, of which this many stand before all, and behind the last one that of all

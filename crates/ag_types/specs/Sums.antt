@@ -7,12 +7,12 @@ use Rattle.ag_stream.specs.declared.problem.Row.{Row}
 use Rattle.ag_stream.specs.Forms.{IsRow}
 use Rattle.ag_stream.specs.Runs.{magnitude}
 use Rattle.ag_stream.specs.Values.{Moment, nothing, row_value}
-use Rattle.ag_annex.specs.declared.clauses.Ty.TheVariants.{Int, Bool as Boolean}
-use Rattle.ag_annex.specs.declared.clauses.Var.{Var}
-use Rattle.ag_annex.specs.declared.terms.Binary.{Binary}
-use Rattle.ag_annex.specs.declared.terms.Binary.TheVariants as binary
-use Rattle.ag_annex.specs.declared.terms.Term.{Term, Number, Truth, Named, Unary', Binary', Choice', Call', end_of-Term, more_of-Term}
-use Rattle.ag_annex.specs.declared.terms.Unary.TheVariants as unary
+use Rattle.ag_terms.specs.declared.clauses.Ty.TheVariants.{Int, Bool as Boolean}
+use Rattle.ag_terms.specs.declared.clauses.Var.{Var}
+use Rattle.ag_terms.specs.declared.terms.Binary.{Binary}
+use Rattle.ag_terms.specs.declared.terms.Binary.TheVariants as binary
+use Rattle.ag_terms.specs.declared.terms.Term.{Term, Number, Truth, Named, Unary', Binary', Choice', Call', end_of-Term, more_of-Term}
+use Rattle.ag_terms.specs.declared.terms.Unary.TheVariants as unary
 use Rattle.ag_symbols.specs.Seen.{Seen, Names, names_seen, sought, is_stream}
 use Rattle.ag_linear.specs.declared.value.Value.{Value}
 use Rattle.ag_types.specs.Constants.{is_varying}
@@ -27,7 +27,19 @@ abbrev pub adds : Binary → Bool
 adds binary.Arrow = false
 adds binary.Div = false
 adds binary.Mod = false
-adds _ = true
+adds binary.Implies = true
+adds binary.Iff = true
+adds binary.Or = true
+adds binary.And = true
+adds binary.Less = true
+adds binary.AtMost = true
+adds binary.More = true
+adds binary.AtLeast = true
+adds binary.Same = true
+adds binary.Differs = true
+adds binary.Plus = true
+adds binary.Minus = true
+adds binary.Times = true
 
 abbrev pub is_named_stream : Names → Term → Bool
 is_named_stream names (Named path) = is_stream names.streams (sought path path.«package»)

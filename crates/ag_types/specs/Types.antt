@@ -3,15 +3,15 @@ use Rattle.std.specs.Prelude.{◌≡◌, ℕ, suc, Bool, true, false, ◌==◌, 
 use Rattle.ag_base.specs.declared.place.Place.{Place}
 use Rattle.ag_base.specs.declared.place.Refusal.{Refusal}
 use Rattle.ag_base.specs.declared.place.Rule.TheVariants.{Unknown, Mismatch, Arity}
-use Rattle.ag_aadl.specs.declared.packages.Path.{Path}
-use Rattle.ag_annex.specs.declared.clauses.NodeDef.{NodeDef}
-use Rattle.ag_annex.specs.declared.clauses.Ty.{Ty}
-use Rattle.ag_annex.specs.declared.clauses.Ty.TheVariants.{Int, Bool as Boolean}
-use Rattle.ag_annex.specs.declared.clauses.Var.{Var}
-use Rattle.ag_annex.specs.declared.terms.Binary.{Binary}
-use Rattle.ag_annex.specs.declared.terms.Binary.TheVariants.{Arrow, Implies, Iff, Or, And, Same, Differs, Plus, Minus, Times, Div, Mod}
-use Rattle.ag_annex.specs.declared.terms.Term.{Term, Number, Truth, Named, Unary', Binary', Choice', Call', Row_of-Term, end_of-Term, more_of-Term}
-use Rattle.ag_annex.specs.declared.terms.Unary.TheVariants as unary
+use Rattle.ag_terms.specs.declared.names.Path.{Path}
+use Rattle.ag_terms.specs.declared.clauses.NodeDef.{NodeDef}
+use Rattle.ag_terms.specs.declared.clauses.Ty.{Ty}
+use Rattle.ag_terms.specs.declared.clauses.Ty.TheVariants.{Int, Bool as Boolean}
+use Rattle.ag_terms.specs.declared.clauses.Var.{Var}
+use Rattle.ag_terms.specs.declared.terms.Binary.{Binary}
+use Rattle.ag_terms.specs.declared.terms.Binary.TheVariants.{Arrow, Implies, Iff, Or, And, Less, AtMost, More, AtLeast, Same, Differs, Plus, Minus, Times, Div, Mod}
+use Rattle.ag_terms.specs.declared.terms.Term.{Term, Number, Truth, Named, Unary', Binary', Choice', Call', Row_of-Term, end_of-Term, more_of-Term}
+use Rattle.ag_terms.specs.declared.terms.Unary.TheVariants as unary
 use Rattle.ag_symbols.specs.Seen.{Names, value_of, node_of}
 use Rattle.ag_types.specs.Places.{path_place, first_place, first_broken}
 
@@ -38,7 +38,16 @@ type_of_binary Minus first = Some Int
 type_of_binary Times first = Some Int
 type_of_binary Div first = Some Int
 type_of_binary Mod first = Some Int
-type_of_binary _ first = Some Boolean
+type_of_binary Implies first = Some Boolean
+type_of_binary Iff first = Some Boolean
+type_of_binary Or first = Some Boolean
+type_of_binary And first = Some Boolean
+type_of_binary Less first = Some Boolean
+type_of_binary AtMost first = Some Boolean
+type_of_binary More first = Some Boolean
+type_of_binary AtLeast first = Some Boolean
+type_of_binary Same first = Some Boolean
+type_of_binary Differs first = Some Boolean
 
 abbrev pub type_in : Names → Term → Option Ty
 type_in names (Number value place) = Some Int
@@ -55,8 +64,9 @@ type_in names (Call' path _ args) = type_of_call (node_of names path)
 
 abbrev pub same_type : Ty → Ty → Bool
 same_type Int Int = true
+same_type Int Boolean = false
+same_type Boolean Int = false
 same_type Boolean Boolean = true
-same_type _ _ = false
 
 -- an operand has another type than is needed; where one of the two isn't known nothing is broken
 abbrev pub mismatch : Option Ty → Option Ty → Place → List Refusal
@@ -72,14 +82,34 @@ needed_first Implies = Some Boolean
 needed_first Iff = Some Boolean
 needed_first Or = Some Boolean
 needed_first And = Some Boolean
-needed_first _ = Some Int
+needed_first Less = Some Int
+needed_first AtMost = Some Int
+needed_first More = Some Int
+needed_first AtLeast = Some Int
+needed_first Plus = Some Int
+needed_first Minus = Some Int
+needed_first Times = Some Int
+needed_first Div = Some Int
+needed_first Mod = Some Int
 
 -- and of its second one: where it needs none of the first, that of the first
 abbrev pub needed_second : Binary → Option Ty → Option Ty
 needed_second Arrow first = first
 needed_second Same first = first
 needed_second Differs first = first
-needed_second op first = needed_first op
+needed_second Implies first = Some Boolean
+needed_second Iff first = Some Boolean
+needed_second Or first = Some Boolean
+needed_second And first = Some Boolean
+needed_second Less first = Some Int
+needed_second AtMost first = Some Int
+needed_second More first = Some Int
+needed_second AtLeast first = Some Int
+needed_second Plus first = Some Int
+needed_second Minus first = Some Int
+needed_second Times first = Some Int
+needed_second Div first = Some Int
+needed_second Mod first = Some Int
 
 -- the number of arguments, or of outputs, isn't the one that is needed
 abbrev pub arity : ℕ → ℕ → Place → List Refusal

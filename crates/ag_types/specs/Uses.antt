@@ -4,11 +4,11 @@ use Rattle.std.specs.List.{flat_map}
 use Rattle.ag_base.specs.declared.place.Place.{Place}
 use Rattle.ag_base.specs.declared.place.Refusal.{Refusal}
 use Rattle.ag_base.specs.declared.place.Rule.TheVariants.{NodeRecursion}
-use Rattle.ag_aadl.specs.declared.packages.Ident.{Ident}
-use Rattle.ag_annex.specs.declared.clauses.Clause.{Clause}
-use Rattle.ag_annex.specs.declared.clauses.Clause.TheVariants as clause
-use Rattle.ag_annex.specs.declared.clauses.Var.{Var}
-use Rattle.ag_annex.specs.declared.terms.Term.{Term, Number, Truth, Named, Unary', Binary', Choice', Call', Row_of-Term, end_of-Term, more_of-Term}
+use Rattle.ag_terms.specs.declared.names.Ident.{Ident}
+use Rattle.ag_terms.specs.declared.clauses.Clause.{Clause}
+use Rattle.ag_terms.specs.declared.clauses.Clause.TheVariants as clause
+use Rattle.ag_terms.specs.declared.clauses.Var.{Var}
+use Rattle.ag_terms.specs.declared.terms.Term.{Term, Number, Truth, Named, Unary', Binary', Choice', Call', Row_of-Term, end_of-Term, more_of-Term}
 use Rattle.ag_graph.specs.Circles.{IsOnCircle}
 use Rattle.ag_graph.specs.Edges.{with_edge}
 use Rattle.ag_symbols.specs.Seen.{Seen, Names, names_of_node, over_sites, sought, position, node_name, constant_position}

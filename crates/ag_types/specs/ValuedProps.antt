@@ -1,7 +1,7 @@
 -- That a value is of a type has one proof.
 use Rattle.std.specs.Prelude.{Option, Some, None}
-use Rattle.ag_annex.specs.declared.clauses.Ty.{Ty}
-use Rattle.ag_annex.specs.declared.clauses.Ty.TheVariants.{Int, Bool as Boolean}
+use Rattle.ag_terms.specs.declared.clauses.Ty.{Ty}
+use Rattle.ag_terms.specs.declared.clauses.Ty.TheVariants.{Int, Bool as Boolean}
 use Rattle.ag_linear.specs.declared.value.Value.{Value}
 use Rattle.ag_linear.specs.declared.value.Value.TheVariants as value
 use Rattle.ag_types.specs.SumRows.{IsValueOf}

@@ -10,9 +10,9 @@ ghost use Rattle.ag_types.specs.Types.{faults_in, type_of_var};
 
 use crate::places::{either, path_place};
 use crate::types::{arguments, arity, behind_first, inputs_of, mismatch, typing, unknown};
-use ag_annex::{Binary, Equal, Labelled, NodeDef, Term, Ty, Unary, Var};
 use ag_base::{Place, Refusal, Rule};
 use ag_symbols::{Sight, Vars};
+use ag_terms::{Binary, Equal, Labelled, NodeDef, Term, Ty, Unary, Var};
 
 /// An assumption, a guarantee or a lemma is a truth.
 pub fn claim(sight: &Sight<'_>, labelled: &Labelled) -> Option<Refusal>
@@ -209,5 +209,11 @@ pub fn is_varying(sight: &Sight<'_>, term: &Term) -> bool
 fn is_arrow(op: Binary) -> bool
     ensures { result ≡ is_arrow op }
 {
-    matches!(op, Binary::Arrow)
+    match op {
+        Binary::Arrow => true,
+        Binary::Implies | Binary::Iff | Binary::Or | Binary::And => false,
+        Binary::Less | Binary::AtMost | Binary::More | Binary::AtLeast => false,
+        Binary::Same | Binary::Differs => false,
+        Binary::Plus | Binary::Minus | Binary::Times | Binary::Div | Binary::Mod => false,
+    }
 }

@@ -10,9 +10,9 @@ use crate::earliest::Earliest;
 use crate::equations::node;
 use crate::places::either;
 use crate::twice::names_seen;
-use ag_annex::Clause;
 use ag_base::{OutOfMemory, Refusal};
 use ag_symbols::{Site, Vars};
+use ag_terms::Clause;
 use std::alloc::Global;
 
 /// The first rule that some clauses of a site break.

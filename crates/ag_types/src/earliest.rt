@@ -7,10 +7,9 @@ ghost use Rattle.ag_base.specs.declared.place.Place.{Place};
 ghost use Rattle.ag_types.specs.ClauseFaults.{is_declared_before};
 ghost use Rattle.ag_types.specs.Earliest.{compare_idents, compare_places, is_in_front, stands_before, IsNext};
 
-use crate::places::is_before;
-use ag_aadl::packages::Ident;
 use ag_base::{OutOfMemory, Place};
 use ag_symbols::compare_names;
+use ag_terms::Ident;
 use std::alloc::Global;
 use std::cmp::Ordering;
 use std::marker::Model;
@@ -26,7 +25,7 @@ pub struct Earliest<'a> {
 impl<'a> Model for Earliest<'a> {
     ghost use Rattle.std.specs.Prelude.{List, map};
     ghost use Rattle.std.specs.Coded.{codes};
-    ghost use Rattle.ag_aadl.specs.declared.packages.Ident.{Ident};
+    ghost use Rattle.ag_terms.specs.declared.names.Ident.{Ident};
 
     ghost Value = { List Ident };
 
@@ -69,7 +68,7 @@ impl<'a> Earliest<'a> {
     {
         match self.first(name.text.as_bytes()) {
             None => false,
-            Some(first) => is_before(first.place, name.place),
+            Some(first) => first.place.is_before(name.place),
         }
     }
 

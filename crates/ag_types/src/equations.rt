@@ -5,7 +5,7 @@ ghost use Rattle.std.specs.List.{flat_map, list_any};
 ghost use Rattle.std.specs.List.Sorted.{IsSortedBy, IsPermutation};
 ghost use Rattle.std.specs.Coded.{codes};
 ghost use Rattle.std.proofs.Props.{props};
-ghost use Rattle.ag_aadl.specs.Words.{same};
+ghost use Rattle.ag_terms.specs.Names.{same};
 ghost use Rattle.ag_symbols.specs.Indexed.{is_below, first_by};
 ghost use Rattle.ag_types.specs.ClauseFaults.{node_faults, node_sees, node_equation, unset, equation_names, equal_faults};
 ghost use Rattle.ag_types.specs.Places.{first_broken};
@@ -15,9 +15,9 @@ use crate::earliest::Earliest;
 use crate::places::either;
 use crate::twice::{first_equation_twice, node_twice_among};
 use crate::types::unknown;
-use ag_annex::{Equal, NodeDef, Var};
 use ag_base::{OutOfMemory, Refusal};
 use ag_symbols::{Sight, Site, Slot, Vars, find_name, node_results, node_streams, sort_names};
+use ag_terms::{Equal, NodeDef, Var};
 use std::alloc::Global;
 
 /// The first rule that a node of the site breaks, with the names that the site's nodes see beside their own.

@@ -1,7 +1,7 @@
 //! The first rule on names and types that the clauses of a scope break, but for circles and numbers.
 ghost use Rattle.std.specs.Prelude.{◌≡◌, ◌++◌, IfOk};
 ghost use Rattle.std.specs.List.{flat_map};
-ghost use Rattle.ag_symbols.specs.Seen.{library_names, frame_names, names_seen};
+ghost use Rattle.ag_symbols.specs.Seen.{library_names, frame_names, names_seen, seen_of};
 ghost use Rattle.ag_types.specs.ClauseFaults.{faults_of, clause_faults};
 ghost use Rattle.ag_types.specs.Places.{first_broken};
 
@@ -9,9 +9,9 @@ use crate::clauses::clauses;
 use crate::places::either;
 use crate::sources::first_second_source;
 use crate::twice::first_declared_twice;
-use ag_annex::{Clause, Var};
 use ag_base::{OutOfMemory, Refusal};
 use ag_symbols::{Sites, Vars, assign_targets};
+use ag_terms::{Clause, Var};
 use std::alloc::Global;
 
 /// The first rule that these clauses break, which have these sites.
@@ -23,10 +23,10 @@ pub fn first_fault(
     body: &[Clause],
     ports: &[Var],
 ) -> Result<Option<Refusal>, OutOfMemory>
-    requires library { sites.now.library ≡ library_names (record { library = library.now; frame = frame.now; body = body.now; ports = ports.now }) }
-    requires frame { sites.now.frame ≡ frame_names (record { library = library.now; frame = frame.now; body = body.now; ports = ports.now }) }
-    requires body { sites.now.body ≡ names_seen (record { library = library.now; frame = frame.now; body = body.now; ports = ports.now }) }
-    ensures { IfOk result (λ r. r ≡ first_broken (faults_of (record { library = library.now; frame = frame.now; body = body.now; ports = ports.now }))) }
+    requires library { sites.now.library ≡ library_names (seen_of library.now frame.now body.now ports.now) }
+    requires frame { sites.now.frame ≡ frame_names (seen_of library.now frame.now body.now ports.now) }
+    requires body { sites.now.body ≡ names_seen (seen_of library.now frame.now body.now ports.now) }
+    ensures { IfOk result (λ r. r ≡ first_broken (faults_of (seen_of library.now frame.now body.now ports.now))) }
 {
     let of_names = first_declared_twice(alloc, library, frame, body, ports)?;
     let targets = assign_targets(alloc, library, frame, body, ports)?;

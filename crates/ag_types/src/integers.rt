@@ -3,8 +3,8 @@ ghost use Rattle.std.specs.Prelude.{◌≡◌, map, IfOk};
 ghost use Rattle.ag_types.specs.Numbers.{numbers_from};
 ghost use Rattle.ag_types.specs.Sums.{is_whole};
 
-use ag_annex::{Ty, Var};
 use ag_base::OutOfMemory;
+use ag_terms::{Ty, Var};
 use std::alloc::Global;
 
 /// For each stream the number of integer streams before it, and behind the last one that of all.

@@ -1,13 +1,12 @@
 //! Names that clauses and nodes declare or set, in their order.
 ghost use Rattle.std.specs.Prelude.{◌≡◌, ◌++◌, map, OnOk, IfOk};
 ghost use Rattle.std.specs.List.{flat_map};
-ghost use Rattle.ag_symbols.specs.Seen.{node_vars};
+ghost use Rattle.ag_symbols.specs.Seen.{node_vars, seen_of};
 ghost use Rattle.ag_types.specs.ClauseFaults.{declared, declared_in, assign_in, node_sees, var_names};
 
-use ag_aadl::packages::Ident;
-use ag_annex::{Clause, Equal, NodeDef, Var};
 use ag_base::OutOfMemory;
 use ag_symbols::Sight;
+use ag_terms::{Clause, Equal, Ident, NodeDef, Var};
 use std::alloc::Global;
 
 /// All names of a scope: those of ports, and those that clauses declare.
@@ -18,7 +17,7 @@ pub fn declared_names<'a>(
     body: &'a [Clause],
     ports: &'a [Var],
 ) -> Result<Vec<&'a Ident>, OutOfMemory>
-    ensures { IfOk result (λ v. map (λ n. n.now) v.items ≡ declared (record { library = library.now; frame = frame.now; body = body.now; ports = ports.now })) }
+    ensures { IfOk result (λ v. map (λ n. n.now) v.items ≡ declared (seen_of library.now frame.now body.now ports.now)) }
 {
     let mut names = Vec::new(alloc);
     push_vars(&mut names, ports)?;

@@ -1,17 +1,17 @@
 //! The rules on numbers over all clauses of a scope.
 ghost use Rattle.std.specs.Prelude.{◌≡◌, IfOk};
 ghost use Rattle.std.specs.List.{flat_map};
-ghost use Rattle.ag_symbols.specs.Seen.{Seen, library_names, frame_names, names_seen, names_of_node};
+ghost use Rattle.ag_symbols.specs.Seen.{Seen, library_names, frame_names, names_seen, names_of_node, seen_of};
 ghost use Rattle.ag_types.specs.Constants.{AreKept};
 ghost use Rattle.ag_types.specs.NumberFaults.{free_or_side, node_numbers, clause_numbers, number_faults};
 ghost use Rattle.ag_types.specs.Places.{first_broken};
 
 use crate::numbers::{numbered, side};
 use crate::places::either;
-use ag_annex::{Clause, Equal, NodeDef, Term, Var};
 use ag_base::{OutOfMemory, Refusal};
 use ag_linear::Value;
 use ag_symbols::{Sight, Site, Sites, node_streams};
+use ag_terms::{Clause, Equal, NodeDef, Term, Var};
 use std::alloc::Global;
 
 /// The first rule on numbers that the clauses of a scope break, where its constants have these values.
@@ -25,10 +25,10 @@ pub fn first_number_fault(
     ports: &[Var],
 ) -> Result<Option<Refusal>, OutOfMemory>
     requires kept { AreKept values.now }
-    requires library { sites.now.library ≡ library_names (record { library = library.now; frame = frame.now; body = body.now; ports = ports.now }) }
-    requires frame { sites.now.frame ≡ frame_names (record { library = library.now; frame = frame.now; body = body.now; ports = ports.now }) }
-    requires body { sites.now.body ≡ names_seen (record { library = library.now; frame = frame.now; body = body.now; ports = ports.now }) }
-    ensures { IfOk result (λ r. r ≡ first_broken (number_faults (record { library = library.now; frame = frame.now; body = body.now; ports = ports.now }) values.now)) }
+    requires library { sites.now.library ≡ library_names (seen_of library.now frame.now body.now ports.now) }
+    requires frame { sites.now.frame ≡ frame_names (seen_of library.now frame.now body.now ports.now) }
+    requires body { sites.now.body ≡ names_seen (seen_of library.now frame.now body.now ports.now) }
+    ensures { IfOk result (λ r. r ≡ first_broken (number_faults (seen_of library.now frame.now body.now ports.now) values.now)) }
 {
     let of_library = of_clauses(alloc, &sites.library, values, library)?;
     let of_frame = of_clauses(alloc, &sites.frame, values, frame)?;

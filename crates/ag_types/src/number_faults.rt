@@ -6,9 +6,9 @@ ghost use Rattle.ag_types.specs.Places.{first_broken};
 
 use crate::numbered::{Numbered, coefficient, own_equation};
 use crate::places::either;
-use ag_annex::{Binary, Unary};
 use ag_base::{Place, Refusal, Rule};
 use ag_linear::{Value, comparison_passes};
+use ag_terms::{Binary, Unary};
 
 /// The operand of a `pre` has an equation of its own.
 pub fn pre_of(op: Unary, arg: &Numbered) -> Option<Refusal>

@@ -5,9 +5,9 @@ ghost use Rattle.ag_types.specs.Numbered.{held, row_before, exact_of_unary, exac
 ghost use Rattle.ag_types.specs.Rows.{both, scaled, row_of_hidden, row_of_stream};
 
 use crate::numbered::Numbered;
-use ag_annex::{Binary, Ty, Unary};
 use ag_base::OutOfMemory;
 use ag_linear::{Kept, Linear, Value, minus, plus, times};
+use ag_terms::{Binary, Ty, Unary};
 use std::alloc::Global;
 
 /// An operator before one operand, which names this integer stream or none.

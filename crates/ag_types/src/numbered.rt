@@ -6,9 +6,9 @@ ghost use Rattle.ag_types.specs.Places.{first_broken};
 ghost use Rattle.ag_types.specs.Rows.{row_of_value};
 
 use crate::places::either;
-use ag_annex::Ty;
 use ag_base::{Place, Refusal, Rule};
 use ag_linear::{Kept, Linear, Value, keeps_limits};
+use ag_terms::Ty;
 use std::alloc::Global;
 
 /// What is known of an expression: its type, whether it isn't constant, the place of its first token, its

@@ -18,11 +18,10 @@ use crate::numbered::{
 };
 use crate::places::{earlier, either, path_place};
 use crate::types::{type_of_binary, type_of_call, type_of_unary};
-use ag_aadl::packages::Path;
-use ag_annex::{Binary, NodeDef, Term, Ty, Unary};
 use ag_base::{OutOfMemory, Place, Refusal};
 use ag_linear::{Value, binary_value, choice_value, literal_value, passes_limit, unary_value};
 use ag_symbols::Sight;
+use ag_terms::{Binary, NodeDef, Path, Term, Ty, Unary};
 use std::alloc::Global;
 
 /// What is known of an expression, where the constants that are seen have these values.

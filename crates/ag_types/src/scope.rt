@@ -4,11 +4,11 @@ ghost use Rattle.std.specs.List.{filter};
 ghost use Rattle.std.specs.Option.{option_copied};
 ghost use Rattle.std.specs.Coded.{codes};
 ghost use Rattle.std.proofs.Props.{props};
-ghost use Rattle.ag_annex.specs.contracts.terms.Term as term;
+ghost use Rattle.ag_terms.specs.contracts.terms.Term as term;
 ghost use Rattle.ag_base.specs.declared.place.Refusal.{Refusal};
 ghost use Rattle.ag_base.specs.declared.place.Refused.TheVariants.{Model};
 ghost use Rattle.ag_graph.specs.Circles.{AreCircles};
-ghost use Rattle.ag_symbols.specs.Seen.{Seen, library_names, frame_names, names_seen, value_of, node_of};
+ghost use Rattle.ag_symbols.specs.Seen.{Seen, library_names, frame_names, names_seen, value_of, node_of, seen_of};
 ghost use Rattle.ag_linear.specs.declared.value.Value.{Value};
 ghost use Rattle.ag_types.specs.Answers.{Breaks, IsFirst, IsRefusal, IsSound};
 ghost use Rattle.ag_types.specs.Constants.{AreKept};
@@ -27,12 +27,11 @@ use crate::number_clauses::first_number_fault;
 use crate::places::either;
 use crate::types::type_of_term;
 use crate::uses::{constants, first_circle, uses};
-use ag_aadl::packages::Path;
-use ag_annex::{Clause, NodeDef, Term, Ty, Var};
-use ag_base::{OutOfMemory, Refusal, Refused};
+use ag_base::{OutOfMemory, Refusal, Refused, refusals_are_ordered};
 use ag_graph::{Circles, circles};
 use ag_linear::Value;
 use ag_symbols::{Sight, Site, Sites};
+use ag_terms::{Clause, NodeDef, Path, Term, Ty, Var};
 use std::alloc::Global;
 use std::marker::Model;
 
@@ -48,23 +47,23 @@ pub struct Scope<'a> {
     site: Site<'a>,
     values: Vec<Option<Value>>,
     integers: Vec<usize>,
-    ghost sees: { site ≡ names_seen (record { library = library.now; frame = frame.now; body = body.now; ports = ports.now }) } by { Prim.hlevel (props, codes, term.the_row.coded) },
-    ghost valued: { AreValues (record { library = library.now; frame = frame.now; body = body.now; ports = ports.now }) values.items } by { Prim.hlevel (props, codes, term.the_row.coded) },
+    ghost sees: { site ≡ names_seen (seen_of library.now frame.now body.now ports.now) } by { Prim.hlevel (props, codes, term.the_row.coded) },
+    ghost valued: { AreValues (seen_of library.now frame.now body.now ports.now) values.items } by { Prim.hlevel (props, codes, term.the_row.coded) },
     ghost kept: { AreKept values.items } by { Prim.hlevel (props, codes) },
-    ghost typed: { HaveValues (names_seen (record { library = library.now; frame = frame.now; body = body.now; ports = ports.now })).constants values.items } by { Prim.hlevel (props, codes, term.the_row.coded, value_of-prop) },
-    ghost counted: { integers.items ≡ numbers_from 0 (names_seen (record { library = library.now; frame = frame.now; body = body.now; ports = ports.now })).streams } by { Prim.hlevel (props, codes, term.the_row.coded) },
+    ghost typed: { HaveValues (names_seen (seen_of library.now frame.now body.now ports.now)).constants values.items } by { Prim.hlevel (props, codes, term.the_row.coded, value_of-prop) },
+    ghost counted: { integers.items ≡ numbers_from 0 (names_seen (seen_of library.now frame.now body.now ports.now)).streams } by { Prim.hlevel (props, codes, term.the_row.coded) },
 }
 
 impl<'a> Model for Scope<'a> {
     ghost use Rattle.std.specs.Coded.{codes};
-    ghost use Rattle.ag_annex.specs.contracts.terms.Term as term;
-    ghost use Rattle.ag_symbols.specs.Seen.{Seen};
+    ghost use Rattle.ag_terms.specs.contracts.terms.Term as term;
+    ghost use Rattle.ag_symbols.specs.Seen.{Seen, seen_of};
 
     ghost Value = { Seen };
 
     ghost coded = { Prim.hlevel (codes, term.the_row.coded) };
 
-    ghost view = { λ s. record { library = s.library.now; frame = s.frame.now; body = s.body.now; ports = s.ports.now } };
+    ghost view = { λ s. seen_of s.library.now s.frame.now s.body.now s.ports.now };
 }
 
 impl<'a> Scope<'a> {
@@ -79,11 +78,11 @@ impl<'a> Scope<'a> {
         ports: &'a [Var],
     ) -> Result<Scope<'a>, Refused>
         // It is seen as what it was made from.
-        ensures seen { IfOk result (λ s. s ≡ record { library = library.now; frame = frame.now; body = body.now; ports = ports.now }) }
+        ensures seen { IfOk result (λ s. s ≡ seen_of library.now frame.now body.now ports.now) }
         // The clauses break no rule.
-        ensures sound { IfOk result (λ s. IsSound (record { library = library.now; frame = frame.now; body = body.now; ports = ports.now })) }
+        ensures sound { IfOk result (λ s. IsSound (seen_of library.now frame.now body.now ports.now)) }
         // They break this rule, and none that comes before it.
-        ensures refused { (r : Refusal) → result ≡ Err (Model r) → IsRefusal (record { library = library.now; frame = frame.now; body = body.now; ports = ports.now }) r }
+        ensures refused { (r : Refusal) → result ≡ Err (Model r) → IsRefusal (seen_of library.now frame.now body.now ports.now) r }
     {
         let checked = match check(alloc, library, frame, body, ports) {
             Ok(checked) => checked,
@@ -196,7 +195,9 @@ pub fn one_refusal(_circles: &Circles)
     requires { AreCircles (uses_of seen) _circles.now.on_circle _circles.now.order }
     ensures one { (r q : Refusal) → IsRefusal seen r → IsRefusal seen q → r ≡ q }
     ensures not_both { (r : Refusal) → IsSound seen → IsRefusal seen r → ⊥ }
-{}
+{
+    refusals_are_ordered();
+}
 
 // What an implementation's clauses see, the values of the constants, the positions of integer streams, and
 // the first broken rule.
@@ -215,12 +216,12 @@ fn check<'a>(
     body: &'a [Clause],
     ports: &'a [Var],
 ) -> Result<Checked<'a>, OutOfMemory>
-    ensures site { IfOk result (λ c. c.site ≡ names_seen (record { library = library.now; frame = frame.now; body = body.now; ports = ports.now })) }
-    ensures values { IfOk result (λ c. AreValues (record { library = library.now; frame = frame.now; body = body.now; ports = ports.now }) c.values.items) }
+    ensures site { IfOk result (λ c. c.site ≡ names_seen (seen_of library.now frame.now body.now ports.now)) }
+    ensures values { IfOk result (λ c. AreValues (seen_of library.now frame.now body.now ports.now) c.values.items) }
     ensures kept { IfOk result (λ c. AreKept c.values.items) }
-    ensures typed { IfOk result (λ c. c.broken ≡ None → HaveValues (names_seen (record { library = library.now; frame = frame.now; body = body.now; ports = ports.now })).constants c.values.items) }
-    ensures counted { IfOk result (λ c. c.integers.items ≡ numbers_from 0 (names_seen (record { library = library.now; frame = frame.now; body = body.now; ports = ports.now })).streams) }
-    ensures broken { IfOk result (λ c. IsFirst (Breaks (record { library = library.now; frame = frame.now; body = body.now; ports = ports.now }) c.values.items) c.broken) }
+    ensures typed { IfOk result (λ c. c.broken ≡ None → HaveValues (names_seen (seen_of library.now frame.now body.now ports.now)).constants c.values.items) }
+    ensures counted { IfOk result (λ c. c.integers.items ≡ numbers_from 0 (names_seen (seen_of library.now frame.now body.now ports.now)).streams) }
+    ensures broken { IfOk result (λ c. IsFirst (Breaks (seen_of library.now frame.now body.now ports.now) c.values.items) c.broken) }
 {
     let sites = Sites::make(alloc, library, frame, body, ports)?;
     let evaluated = evaluate(alloc, &sites, &*library, &*frame, &*body, ports)?;
@@ -260,7 +261,7 @@ fn evaluate<'s>(
     ports: &[Var],
 ) -> Result<Evaluated, OutOfMemory>
     ghost seen: { Seen }
-    requires seen { seen ≡ record { library = library.now; frame = frame.now; body = body.now; ports = ports.now } }
+    requires seen { seen ≡ seen_of library.now frame.now body.now ports.now }
     requires library { sites.now.library ≡ library_names seen }
     requires frame { sites.now.frame ≡ frame_names seen }
     requires body { sites.now.body ≡ names_seen seen }

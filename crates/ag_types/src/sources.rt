@@ -2,17 +2,16 @@
 ghost use Rattle.std.specs.Prelude.{◌≡◌, ◌++◌, [], ◌∷◌, not, is_none, ◌&&◌, ◌||◌, map, OnOk, IfOk, if◌then◌else◌};
 ghost use Rattle.std.specs.List.{flat_map};
 ghost use Rattle.ag_base.specs.declared.place.Rule.TheVariants.{TwoSources};
-ghost use Rattle.ag_symbols.specs.Seen.{value_named};
+ghost use Rattle.ag_symbols.specs.Seen.{value_named, seen_of};
 ghost use Rattle.ag_types.specs.ClauseFaults.{assign_in, is_declared_before, second_source, valued_streams_in};
 ghost use Rattle.ag_types.specs.Places.{first_broken};
 
 use crate::earliest::Earliest;
 use crate::names::assigned_names;
 use crate::places::either;
-use ag_aadl::packages::Ident;
-use ag_annex::{Clause, Var};
 use ag_base::{OutOfMemory, Refusal, Rule};
 use ag_symbols::{Vars, assign_targets, push_vars};
+use ag_terms::{Clause, Ident, Var};
 use std::alloc::Global;
 
 /// The first assign that gives a stream a second source.
@@ -23,7 +22,7 @@ pub fn first_second_source(
     body: &[Clause],
     ports: &[Var],
 ) -> Result<Option<Refusal>, OutOfMemory>
-    ensures { IfOk result (λ r. r ≡ first_broken (flat_map (second_source (record { library = library.now; frame = frame.now; body = body.now; ports = ports.now }) (flat_map assign_in (library.now ++ (frame.now ++ body.now)))) (flat_map assign_in (library.now ++ (frame.now ++ body.now))))) }
+    ensures { IfOk result (λ r. r ≡ first_broken (flat_map (second_source (seen_of library.now frame.now body.now ports.now) (flat_map assign_in (library.now ++ (frame.now ++ body.now)))) (flat_map assign_in (library.now ++ (frame.now ++ body.now))))) }
 {
     let targets = assign_targets(alloc, library, frame, body, ports)?;
     let valued = valued_of(alloc, library, frame, body)?;

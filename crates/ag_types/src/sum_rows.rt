@@ -15,11 +15,11 @@ use crate::places::either;
 use crate::scope::Scope;
 use crate::sums;
 use crate::types::{mismatch, typing};
-use ag_annex::{Term, Ty};
 use ag_base::{List, OutOfMemory, Refusal, Refused};
 use ag_linear::{Factor, Linear, Value};
 use ag_stream::problem::{Row, RowTerm};
 use ag_symbols::Sight;
+use ag_terms::{Term, Ty};
 use std::alloc::Global;
 
 /// Whether an expression is a sum: where it isn't constant, it has no `if`, arrow, quotient, remainder or call,

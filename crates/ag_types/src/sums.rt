@@ -3,8 +3,8 @@ ghost use Rattle.std.specs.Prelude.{◌≡◌};
 ghost use Rattle.ag_types.specs.Sums.{adds, is_named_stream, is_sum};
 
 use crate::claims::is_varying;
-use ag_annex::{Binary, Term, Unary};
 use ag_symbols::Sight;
+use ag_terms::{Binary, Term, Unary};
 
 /// Where it isn't constant, an expression has no `if`, arrow, quotient, remainder or call, and `pre` of a
 /// stream alone.
@@ -47,5 +47,11 @@ fn is_named_stream(sight: &Sight<'_>, term: &Term) -> bool
 fn adds(op: Binary) -> bool
     ensures { result ≡ adds op }
 {
-    !matches!(op, Binary::Arrow | Binary::Div | Binary::Mod)
+    match op {
+        Binary::Arrow | Binary::Div | Binary::Mod => false,
+        Binary::Implies | Binary::Iff | Binary::Or | Binary::And => true,
+        Binary::Less | Binary::AtMost | Binary::More | Binary::AtLeast => true,
+        Binary::Same | Binary::Differs => true,
+        Binary::Plus | Binary::Minus | Binary::Times => true,
+    }
 }

@@ -2,17 +2,16 @@
 ghost use Rattle.std.specs.Prelude.{◌≡◌, ◌++◌, [], ◌∷◌, map, IfOk, if◌then◌else◌};
 ghost use Rattle.std.specs.List.Sorted.{IsPermutation};
 ghost use Rattle.ag_base.specs.declared.place.Rule.TheVariants.{Twice};
-ghost use Rattle.ag_symbols.specs.Seen.{Names};
+ghost use Rattle.ag_symbols.specs.Seen.{Names, seen_of};
 ghost use Rattle.ag_types.specs.ClauseFaults.{declared, equation_names, is_declared_before, node_sees, node_twice, twice_among};
 ghost use Rattle.ag_types.specs.Places.{first_broken};
 
 use crate::earliest::Earliest;
 use crate::names::{declared_names, node_names, push_equations, seen_names};
 use crate::places::either;
-use ag_aadl::packages::Ident;
-use ag_annex::{Clause, NodeDef, Var};
 use ag_base::{OutOfMemory, Refusal, Rule};
 use ag_symbols::Sight;
+use ag_terms::{Clause, Ident, NodeDef, Var};
 use std::alloc::Global;
 
 /// The first name of a scope that is declared at an earlier place too.
@@ -23,7 +22,7 @@ pub fn first_declared_twice(
     body: &[Clause],
     ports: &[Var],
 ) -> Result<Option<Refusal>, OutOfMemory>
-    ensures { IfOk result (λ r. r ≡ first_broken (twice_among (declared (record { library = library.now; frame = frame.now; body = body.now; ports = ports.now })) (declared (record { library = library.now; frame = frame.now; body = body.now; ports = ports.now })))) }
+    ensures { IfOk result (λ r. r ≡ first_broken (twice_among (declared (seen_of library.now frame.now body.now ports.now)) (declared (seen_of library.now frame.now body.now ports.now)))) }
 {
     let names = declared_names(alloc, library, frame, body, ports)?;
     first_twice(alloc, names.as_slice(), names.as_slice())

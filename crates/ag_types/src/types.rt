@@ -1,9 +1,9 @@
 //! The types of expressions, and the first rule on types that they break.
 ghost use Rattle.std.specs.Prelude.{◌≡◌, ◌++◌, ◌⊎◌, Result, Some, Err, IfOk, drop};
 ghost use Rattle.std.specs.Option.{option_copied};
-ghost use Rattle.ag_annex.specs.declared.clauses.Ty.{Ty};
-ghost use Rattle.ag_annex.specs.declared.terms.Term.{Term};
-ghost use Rattle.ag_annex.specs.declared.clauses.Ty.TheVariants.{Bool as Boolean};
+ghost use Rattle.ag_terms.specs.declared.clauses.Ty.{Ty};
+ghost use Rattle.ag_terms.specs.declared.terms.Term.{Term};
+ghost use Rattle.ag_terms.specs.declared.clauses.Ty.TheVariants.{Bool as Boolean};
 ghost use Rattle.ag_base.specs.declared.place.Refusal.{Refusal};
 ghost use Rattle.ag_symbols.specs.Seen.{Names, value_of};
 ghost use Rattle.ag_types.specs.Firsts.{either, type_of_unary, needed_alone, first_mismatch, mismatches_in, faults_among, inputs_of, first_of_call};
@@ -11,10 +11,9 @@ ghost use Rattle.ag_types.specs.Places.{first_place, first_broken, path_place, e
 ghost use Rattle.ag_types.specs.Types.{type_in, type_of_var, type_of_call, type_of_outputs, type_of_binary, same_type, needed_first, needed_second, mismatch, arity, unknown, faults_in, value_faults, IsTyped, IsIllTyped};
 
 use crate::places::{earlier, either, path_place};
-use ag_aadl::packages::Path;
-use ag_annex::{Binary, NodeDef, Term, Ty, Unary, Var};
 use ag_base::{Place, Refusal, Rule};
 use ag_symbols::Sight;
+use ag_terms::{Binary, NodeDef, Path, Term, Ty, Unary, Var};
 
 /// What is known of a term: its type, if it has one, the first rule on types that it breaks, and the place
 /// of its first token.
@@ -185,7 +184,9 @@ pub fn type_of_binary(op: Binary, first: Option<Ty>) -> Option<Ty>
     match op {
         Binary::Arrow => first,
         Binary::Plus | Binary::Minus | Binary::Times | Binary::Div | Binary::Mod => Some(Ty::Int),
-        _ => Some(Ty::Bool),
+        Binary::Implies | Binary::Iff | Binary::Or | Binary::And => Some(Ty::Bool),
+        Binary::Less | Binary::AtMost | Binary::More | Binary::AtLeast => Some(Ty::Bool),
+        Binary::Same | Binary::Differs => Some(Ty::Bool),
     }
 }
 
@@ -195,7 +196,8 @@ fn needed_first(op: Binary) -> Option<Ty>
     match op {
         Binary::Arrow | Binary::Same | Binary::Differs => None,
         Binary::Implies | Binary::Iff | Binary::Or | Binary::And => Some(Ty::Bool),
-        _ => Some(Ty::Int),
+        Binary::Less | Binary::AtMost | Binary::More | Binary::AtLeast => Some(Ty::Int),
+        Binary::Plus | Binary::Minus | Binary::Times | Binary::Div | Binary::Mod => Some(Ty::Int),
     }
 }
 
@@ -204,7 +206,9 @@ fn needed_second(op: Binary, first: Option<Ty>) -> Option<Ty>
 {
     match op {
         Binary::Arrow | Binary::Same | Binary::Differs => first,
-        _ => needed_first(op),
+        Binary::Implies | Binary::Iff | Binary::Or | Binary::And => Some(Ty::Bool),
+        Binary::Less | Binary::AtMost | Binary::More | Binary::AtLeast => Some(Ty::Int),
+        Binary::Plus | Binary::Minus | Binary::Times | Binary::Div | Binary::Mod => Some(Ty::Int),
     }
 }
 
@@ -321,7 +325,7 @@ fn same_type(a: Ty, b: Ty) -> bool
 {
     match (a, b) {
         (Ty::Int, Ty::Int) | (Ty::Bool, Ty::Bool) => true,
-        _ => false,
+        (Ty::Int, Ty::Bool) | (Ty::Bool, Ty::Int) => false,
     }
 }
 

@@ -8,11 +8,10 @@ ghost use Rattle.ag_types.specs.Places.{first_broken};
 ghost use Rattle.ag_types.specs.Uses.{constant_in, constants_of, of_constant, of_node, at_most_one, behind, used_in, used_by, uses_of, with_edges, circular, circular_from, IsCircular};
 
 use crate::places::either;
-use ag_aadl::packages::Path;
-use ag_annex::{Clause, NodeDef, Term, Var};
 use ag_base::{OutOfMemory, Place, Refusal, Rule};
 use ag_graph::{Circles, Graph};
 use ag_symbols::{Sight, Site, Sites, node_streams};
+use ag_terms::{Clause, NodeDef, Path, Term, Var};
 use std::alloc::Global;
 use std::marker::Model;
 
@@ -26,7 +25,7 @@ pub struct Constant<'a> {
 
 impl<'a> Model for Constant<'a> {
     ghost use Rattle.std.specs.Coded.{codes};
-    ghost use Rattle.ag_annex.specs.contracts.terms.Term as expression;
+    ghost use Rattle.ag_terms.specs.contracts.terms.Term as expression;
     ghost use Rattle.ag_types.specs.Uses.{Constant};
 
     ghost Value = { Constant };
@@ -66,6 +65,14 @@ fn push_constants<'a>(
     Ok(())
 }
 
+// A constant of a site.
+fn constant_of<'a>(site: &'a Site<'_>, var: &'a Var, term: &'a Term) -> Constant<'a>
+    ensures { result ≡ record { var = var.now; names = site.now; term = term.now } }
+{
+    let sight = site.sight();
+    Constant { var, sight, term }
+}
+
 fn push_constant_in<'a>(
     constants: &mut Vec<Constant<'a>>,
     site: &'a Site<'_>,
@@ -75,15 +82,11 @@ fn push_constant_in<'a>(
 {
     match clause {
         Clause::Const { name, value } => {
-            let sight = site.sight();
-            constants.push(Constant {
-                var: name,
-                sight,
-                term: value,
-            })?;
+            constants.push(constant_of(site, name, value))?;
             Ok(())
         }
-        _ => Ok(()),
+        Clause::Assume(_) | Clause::Guarantee(_) | Clause::Lemma(_) => Ok(()),
+        Clause::Eq { .. } | Clause::Assign(_) | Clause::Node(_) => Ok(()),
     }
 }
 

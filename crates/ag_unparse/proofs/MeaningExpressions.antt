@@ -5,8 +5,8 @@ use Rattle.std.proofs.lemmas.Bool.{and_parts}
 use Rattle.ag_lex.specs.Rules.{decimal}
 use Rattle.ag_aadl.specs.Marked.{own}
 use Rattle.ag_annex.specs.declared.frames.Operand.TheVariants.{Whole}
-use Rattle.ag_annex.specs.declared.terms.Term.{Term, Number, Truth, Named, Unary', Binary', Choice', Call', Row_of-Term, end_of-Term, more_of-Term}
-use Rattle.ag_annex.specs.declared.terms.Unary.TheVariants as unary
+use Rattle.ag_terms.specs.declared.terms.Term.{Term, Number, Truth, Named, Unary', Binary', Choice', Call', Row_of-Term, end_of-Term, more_of-Term}
+use Rattle.ag_terms.specs.declared.terms.Unary.TheVariants as unary
 use Rattle.ag_unparse.specs.Canonical.{number_word, truth_word, path_words, term_words, argument_words}
 use Rattle.ag_unparse.specs.Printable.{is_literal, is_plain_path, is_printable_term, are_printable_terms}
 use Rattle.ag_unparse.specs.Same.{bare_term, bare_terms, bare_path, nowhere}

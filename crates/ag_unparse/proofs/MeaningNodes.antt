@@ -5,12 +5,12 @@ use Rattle.std.proofs.lemmas.Bool.{and_parts}
 use Rattle.std.proofs.lemmas.List.{append_assoc}
 use Rattle.ag_lex.specs.declared.token.Token.{Token}
 use Rattle.ag_aadl.specs.declared.marked.Marked.{Marked}
-use Rattle.ag_aadl.specs.declared.packages.Ident.{Ident}
+use Rattle.ag_terms.specs.declared.names.Ident.{Ident}
 use Rattle.ag_aadl.specs.Marked.{own, segments}
 use Rattle.ag_aadl.specs.Meaning.{begins_with}
-use Rattle.ag_annex.specs.declared.clauses.Equal.{Equal}
-use Rattle.ag_annex.specs.declared.clauses.NodeDef.{NodeDef}
-use Rattle.ag_annex.specs.declared.clauses.Var.{Var}
+use Rattle.ag_terms.specs.declared.clauses.Equal.{Equal}
+use Rattle.ag_terms.specs.declared.clauses.NodeDef.{NodeDef}
+use Rattle.ag_terms.specs.declared.clauses.Var.{Var}
 use Rattle.ag_annex.specs.Clauses.{parts_of_node, part_under, node_of}
 use Rattle.ag_annex.specs.Marks.{node_mark, returns_mark, locals_mark, let_mark, tel_mark, node_name_mark}
 use Rattle.ag_unparse.specs.Canonical.{name_at, sign, equal_words, vars_words, local_words, locals_words, node_words}

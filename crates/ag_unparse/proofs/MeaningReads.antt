@@ -4,18 +4,18 @@ use Rattle.std.specs.Prelude.{slice_range}
 use Rattle.std.proofs.lemmas.List.{append_assoc, append-nil, map-append}
 use Rattle.ag_lex.specs.declared.token.Token.{Token}
 use Rattle.ag_aadl.specs.declared.marked.Marked.{Marked}
-use Rattle.ag_aadl.specs.declared.packages.Path.{Path}
+use Rattle.ag_terms.specs.declared.names.Path.{Path}
 use Rattle.ag_aadl.specs.Meaning.{path_of}
 use Rattle.ag_annex.specs.declared.frames.Frame.{Frame}
 use Rattle.ag_annex.specs.declared.frames.Frame.TheVariants as frame
 use Rattle.ag_annex.specs.declared.frames.Operand.{Operand}
 use Rattle.ag_annex.specs.declared.frames.Operand.TheVariants.{Nothing, Name, Whole}
 use Rattle.ag_annex.specs.declared.frames.Reading.{Reading}
-use Rattle.ag_annex.specs.declared.terms.Binary.{Binary}
-use Rattle.ag_annex.specs.declared.terms.Binary.TheVariants.{Arrow, Implies, Iff, Or, And, Less, AtMost, More, AtLeast, Same, Differs, Plus, Minus, Times, Div, Mod}
-use Rattle.ag_annex.specs.declared.terms.Term.{Term, Named}
-use Rattle.ag_annex.specs.declared.terms.Term.TheViews as term
-use Rattle.ag_annex.specs.declared.terms.Unary.TheVariants as unary
+use Rattle.ag_terms.specs.declared.terms.Binary.{Binary}
+use Rattle.ag_terms.specs.declared.terms.Binary.TheVariants.{Arrow, Implies, Iff, Or, And, Less, AtMost, More, AtLeast, Same, Differs, Plus, Minus, Times, Div, Mod}
+use Rattle.ag_terms.specs.declared.terms.Term.{Term, Named}
+use Rattle.ag_terms.specs.declared.terms.Term.TheViews as term
+use Rattle.ag_terms.specs.declared.terms.Unary.TheVariants as unary
 use Rattle.ag_annex.specs.Expressions.{named, operand_term, close_all, with_last, behind_close, behind_name, read_token, read_tokens}
 use Rattle.ag_annex.specs.Marks.{negative_mark, not_mark, pre_mark, if_mark, then_mark, else_mark, operand_mark, call_mark, argument_mark}
 use Rattle.ag_annex.specs.Operators.{binary_of}

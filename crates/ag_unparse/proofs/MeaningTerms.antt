@@ -2,12 +2,12 @@
 use denote.Hole.Carrier.{hidden}
 use Rattle.std.proofs.Common.{◌≡◌, List, ◌∷◌, map, refl, ap, ◌∙◌}
 use Rattle.ag_base.specs.declared.place.Place.{Place}
-use Rattle.ag_aadl.specs.declared.packages.Path.{Path}
-use Rattle.ag_annex.specs.declared.terms.Binary.{Binary}
-use Rattle.ag_annex.specs.declared.terms.Unary.{Unary}
-use Rattle.ag_annex.specs.declared.terms.Term.{Term, Row_of-Term, end_of-Term, more_of-Term, items-the_row-Term, items_hidden-the_row-Term-1}
-use Rattle.ag_annex.specs.declared.terms.Term.TheBlock.{hidden-the_row-Term-0, hidden-the_row-Term-1}
-use Rattle.ag_annex.specs.declared.terms.Term.TheViews as term
+use Rattle.ag_terms.specs.declared.names.Path.{Path}
+use Rattle.ag_terms.specs.declared.terms.Binary.{Binary}
+use Rattle.ag_terms.specs.declared.terms.Unary.{Unary}
+use Rattle.ag_terms.specs.declared.terms.Term.{Term, Row_of-Term, end_of-Term, more_of-Term, items-the_row-Term, items_hidden-the_row-Term-1}
+use Rattle.ag_terms.specs.declared.terms.Term.TheBlock.{hidden-the_row-Term-0, hidden-the_row-Term-1}
+use Rattle.ag_terms.specs.declared.terms.Term.TheViews as term
 use Rattle.ag_unparse.specs.Same.{bare_term, bare_terms, bare_path, nowhere}
 
 pub bare_unary : (op : Unary) (place : Place) (t : Term) → bare_term (term.Unary op place t) ≡ term.Unary op nowhere (bare_term t)

@@ -6,12 +6,12 @@ use Rattle.std.proofs.lemmas.List.{append_assoc, append-nil}
 use Rattle.ag_lex.specs.declared.token.Token.{Token}
 use Rattle.ag_aadl.specs.declared.marked.Marked.{Marked}
 use Rattle.ag_aadl.specs.Marked.{own, has_mark, is_among, up_to, segments}
-use Rattle.ag_annex.specs.declared.clauses.Equal.{Equal}
-use Rattle.ag_annex.specs.declared.clauses.Ty.{Ty}
-use Rattle.ag_annex.specs.declared.clauses.Ty.TheVariants as ty
-use Rattle.ag_annex.specs.declared.clauses.Var.{Var}
+use Rattle.ag_terms.specs.declared.clauses.Equal.{Equal}
+use Rattle.ag_terms.specs.declared.clauses.Ty.{Ty}
+use Rattle.ag_terms.specs.declared.clauses.Ty.TheVariants as ty
+use Rattle.ag_terms.specs.declared.clauses.Var.{Var}
 use Rattle.ag_annex.specs.declared.frames.Reading.{Reading}
-use Rattle.ag_annex.specs.declared.terms.Term.{Term}
+use Rattle.ag_terms.specs.declared.terms.Term.{Term}
 use Rattle.ag_annex.specs.Clauses.{value_of, var_of, equal_of, vars_of}
 use Rattle.ag_annex.specs.Expressions.{finished, term_of}
 use Rattle.ag_annex.specs.Marks.{variable_mark, bool_mark, target_mark, end_mark}

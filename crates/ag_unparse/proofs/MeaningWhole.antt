@@ -5,8 +5,8 @@ use Rattle.ag_grammar.specs.Texts.{marks_of}
 use Rattle.ag_lex.specs.declared.token.Token.{Token}
 use Rattle.ag_aadl.specs.declared.marked.Marked.{Marked}
 use Rattle.ag_aadl.specs.Marked.{marked}
-use Rattle.ag_annex.specs.declared.clauses.Clause.{Clause}
-use Rattle.ag_annex.specs.declared.clauses.Site.{Site}
+use Rattle.ag_terms.specs.declared.clauses.Clause.{Clause}
+use Rattle.ag_terms.specs.declared.clauses.Site.{Site}
 use Rattle.ag_annex.specs.Words.{terminals_of}
 use Rattle.ag_unparse.specs.Depth.{AreShallow}
 use Rattle.ag_unparse.specs.Rereading.{MayBePrinted, AreWithin, State}

@@ -11,16 +11,16 @@ use Rattle.ag_aadl.specs.declared.marked.Marked.{Marked}
 use Rattle.ag_aadl.specs.Marked.{marked, own, under, has_mark, first_of, is_among, up_to, segments}
 use Rattle.ag_aadl.specs.Meaning.{begins_with}
 use Rattle.ag_aadl.specs.Rules.{refused_at}
-use Rattle.ag_annex.specs.declared.clauses.Clause.{Clause}
-use Rattle.ag_annex.specs.declared.clauses.Clause.TheVariants as clause
-use Rattle.ag_annex.specs.declared.clauses.Equal.{Equal}
-use Rattle.ag_annex.specs.declared.clauses.Labelled.{Labelled}
-use Rattle.ag_annex.specs.declared.clauses.NodeDef.{NodeDef}
-use Rattle.ag_annex.specs.declared.clauses.Site.{Site}
-use Rattle.ag_annex.specs.declared.clauses.Site.TheVariants.{Library, Frame, Body}
-use Rattle.ag_annex.specs.declared.clauses.Var.{Var}
+use Rattle.ag_terms.specs.declared.clauses.Clause.{Clause}
+use Rattle.ag_terms.specs.declared.clauses.Clause.TheVariants as clause
+use Rattle.ag_terms.specs.declared.clauses.Equal.{Equal}
+use Rattle.ag_terms.specs.declared.clauses.Labelled.{Labelled}
+use Rattle.ag_terms.specs.declared.clauses.NodeDef.{NodeDef}
+use Rattle.ag_terms.specs.declared.clauses.Site.{Site}
+use Rattle.ag_terms.specs.declared.clauses.Site.TheVariants.{Library, Frame, Body}
+use Rattle.ag_terms.specs.declared.clauses.Var.{Var}
 use Rattle.ag_annex.specs.declared.nesting.Open.{Open}
-use Rattle.ag_annex.specs.declared.terms.Term.{Term}
+use Rattle.ag_terms.specs.declared.terms.Term.{Term}
 use Rattle.ag_annex.specs.Annexes.{AreAnnexTokens, IsAnnex}
 use Rattle.ag_annex.specs.Clauses.{after, value_of, some_value, var_of, vars_of, equal_of, label_of, labelled_of, parts_of_node, part_under, node_of, clause_under, clause_of, clause_marks, clauses_of}
 use Rattle.ag_annex.specs.Marks.{assume_mark, guarantee_mark, lemma_mark, eq_mark, assign_mark, const_mark, node_mark, label_mark, variable_mark, target_mark, node_name_mark, returns_mark, locals_mark, let_mark, value_mark, end_mark, number_mark}

@@ -13,7 +13,7 @@ use Rattle.ag_lex.specs.Characters.{is_word_byte}
 use Rattle.ag_lex.specs.Rules.{decimal}
 use Rattle.ag_lex.specs.Spelling.{is_name}
 use Rattle.ag_aadl.specs.declared.marked.Marked.{Marked}
-use Rattle.ag_aadl.specs.declared.packages.Path.{Path}
+use Rattle.ag_terms.specs.declared.names.Path.{Path}
 use Rattle.ag_aadl.specs.Marked.{own}
 use Rattle.ag_aadl.specs.Meaning.{joined, some_ident, path_of}
 use Rattle.ag_aadl.specs.Names.{put_before, name_parts}
@@ -22,13 +22,13 @@ use Rattle.ag_annex.specs.declared.frames.Frame.TheVariants as frame
 use Rattle.ag_annex.specs.declared.frames.Operand.{Operand}
 use Rattle.ag_annex.specs.declared.frames.Operand.TheVariants.{Nothing, Name, Whole}
 use Rattle.ag_annex.specs.declared.frames.Reading.{Reading}
-use Rattle.ag_annex.specs.declared.terms.Binary.{Binary}
-use Rattle.ag_annex.specs.declared.terms.Binary.TheVariants.{Arrow}
-use Rattle.ag_annex.specs.declared.terms.Term.{Term, Number, Truth, Row_of-Term, end_of-Term, more_of-Term, items-the_row-Term, items_hidden-the_row-Term-1}
-use Rattle.ag_annex.specs.declared.terms.Term.TheBlock.{hidden-the_row-Term-0, hidden-the_row-Term-1}
-use Rattle.ag_annex.specs.declared.terms.Term.TheViews as term
-use Rattle.ag_annex.specs.declared.terms.Unary.{Unary}
-use Rattle.ag_annex.specs.declared.terms.Unary.TheVariants as unary
+use Rattle.ag_terms.specs.declared.terms.Binary.{Binary}
+use Rattle.ag_terms.specs.declared.terms.Binary.TheVariants.{Arrow}
+use Rattle.ag_terms.specs.declared.terms.Term.{Term, Number, Truth, Row_of-Term, end_of-Term, more_of-Term, items-the_row-Term, items_hidden-the_row-Term-1}
+use Rattle.ag_terms.specs.declared.terms.Term.TheBlock.{hidden-the_row-Term-0, hidden-the_row-Term-1}
+use Rattle.ag_terms.specs.declared.terms.Term.TheViews as term
+use Rattle.ag_terms.specs.declared.terms.Unary.{Unary}
+use Rattle.ag_terms.specs.declared.terms.Unary.TheVariants as unary
 use Rattle.ag_annex.specs.Clauses.{label_of}
 use Rattle.ag_annex.specs.Expressions.{named, operand_term, ends_before, close_before, close_choice, behind_infix, close_all, with_last, behind_close, behind_comma, behind_test, behind_yes, behind_name, with_part, with_body, behind_operand, behind_opening, behind_other, read_token, unread, read_tokens, term_of}
 use Rattle.ag_annex.specs.Marks.{negative_mark, not_mark, pre_mark, prev_mark, if_mark, then_mark, else_mark, number_mark, label_mark, true_mark, false_mark, group_mark, call_mark, argument_mark, close_mark, path_mark, part_mark, path_body_mark}

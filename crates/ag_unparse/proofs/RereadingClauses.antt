@@ -8,8 +8,8 @@ use Rattle.ag_lex.specs.declared.token.TokenKind.{TokenKind}
 use Rattle.ag_lex.specs.Answers.{AreKept}
 use Rattle.ag_lex.specs.Tokens.{Piece, Space, Comment, Lexeme, piece_bytes, AreRead, tokens_of}
 use Rattle.ag_aadl.specs.Marked.{marked}
-use Rattle.ag_annex.specs.declared.clauses.Clause.{Clause}
-use Rattle.ag_annex.specs.declared.clauses.Site.{Site}
+use Rattle.ag_terms.specs.declared.clauses.Clause.{Clause}
+use Rattle.ag_terms.specs.declared.clauses.Site.{Site}
 use Rattle.ag_annex.specs.Clauses.{clauses_of}
 use Rattle.ag_annex.specs.Grammar.{annex}
 use Rattle.ag_annex.specs.Words.{terminal_of, terminals_of}

@@ -9,14 +9,14 @@ use Rattle.ag_lex.specs.declared.token.Language.TheVariants.{Agree}
 use Rattle.ag_lex.specs.declared.token.Token.{Token}
 use Rattle.ag_lex.specs.Answers.{AreKept}
 use Rattle.ag_lex.specs.Tokens.{AreTokens}
-use Rattle.ag_annex.specs.declared.clauses.Clause.{Clause}
-use Rattle.ag_annex.specs.declared.clauses.Clause.TheVariants as clause
-use Rattle.ag_annex.specs.declared.clauses.Equal.{Equal}
-use Rattle.ag_annex.specs.declared.clauses.Labelled.{Labelled}
-use Rattle.ag_annex.specs.declared.clauses.NodeDef.{NodeDef}
-use Rattle.ag_annex.specs.declared.clauses.Site.{Site}
-use Rattle.ag_annex.specs.declared.clauses.Var.{Var}
-use Rattle.ag_annex.specs.declared.terms.Term.{Term}
+use Rattle.ag_terms.specs.declared.clauses.Clause.{Clause}
+use Rattle.ag_terms.specs.declared.clauses.Clause.TheVariants as clause
+use Rattle.ag_terms.specs.declared.clauses.Equal.{Equal}
+use Rattle.ag_terms.specs.declared.clauses.Labelled.{Labelled}
+use Rattle.ag_terms.specs.declared.clauses.NodeDef.{NodeDef}
+use Rattle.ag_terms.specs.declared.clauses.Site.{Site}
+use Rattle.ag_terms.specs.declared.clauses.Var.{Var}
+use Rattle.ag_terms.specs.declared.terms.Term.{Term}
 use Rattle.ag_annex.specs.Annexes.{IsAnnex}
 use Rattle.ag_annex.specs.Grammar.{annex}
 use Rattle.ag_annex.specs.Nesting.{behind}

@@ -7,11 +7,11 @@ use Rattle.ag_base.specs.declared.place.Rule.TheVariants.{TooDeep, Misplaced}
 use Rattle.ag_lex.specs.declared.token.Token.{Token}
 use Rattle.ag_aadl.specs.declared.marked.Marked.{Marked}
 use Rattle.ag_aadl.specs.Rules.{refused_at}
-use Rattle.ag_annex.specs.declared.clauses.Site.{Site}
+use Rattle.ag_terms.specs.declared.clauses.Site.{Site}
 use Rattle.ag_annex.specs.declared.nesting.Open.{Open}
 use Rattle.ag_annex.specs.declared.nesting.Open.TheVariants.{Bracket, Test, Yes, No, Prefix, Chain}
-use Rattle.ag_annex.specs.declared.terms.Term.{Term, Number, Truth, Named, Unary', Binary', Choice', Call', Row_of-Term, end_of-Term, more_of-Term}
-use Rattle.ag_annex.specs.declared.terms.Unary.TheVariants as unary
+use Rattle.ag_terms.specs.declared.terms.Term.{Term, Number, Truth, Named, Unary', Binary', Choice', Call', Row_of-Term, end_of-Term, more_of-Term}
+use Rattle.ag_terms.specs.declared.terms.Unary.TheVariants as unary
 use Rattle.ag_annex.specs.Nesting.{behind, levels, most_levels}
 use Rattle.ag_annex.specs.Operators.{rank}
 use Rattle.ag_annex.specs.Rules.{is_misplaced, opened, run_from}

@@ -1,7 +1,7 @@
 -- The terminals of the words and symbols that the canonical text of clauses consists of.
 use Rattle.std.proofs.Common.{◌≡◌, refl, codes}
 use Rattle.ag_lex.specs.declared.token.TokenKind.TheVariants.{Name, Symbol}
-use Rattle.ag_aadl.specs.Words.{same}
+use Rattle.ag_terms.specs.Names.{same}
 use Rattle.ag_annex.specs.Terminals.{assume_word, guarantee_word, lemma_word, eq_word, assign_word, const_word, node_word, returns_word, var_word, let_word, tel_word, int_word, bool_word, true_word, false_word, pre_word, if_word, then_word, else_word, and_word, or_word, not_word, div_word, mod_word, colons, comma, semicolon, colon, dot, open_paren, close_paren, arrow, implies, iff, less, at_most, more, at_least, equals, differs, plus, minus, times}
 use Rattle.ag_annex.specs.Words.{reserved_words, known_symbols, terminal_of}
 

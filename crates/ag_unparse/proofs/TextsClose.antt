@@ -6,8 +6,8 @@ use Rattle.std.proofs.lemmas.Bool.{and_parts, or_parts, or_from, not-true}
 use Rattle.std.proofs.lemmas.Bool.Decides.{nat_tests}
 use Rattle.ag_lex.specs.Characters.{is_text_byte}
 use Rattle.ag_lex.specs.Spelling.{has_close}
-use Rattle.ag_annex.specs.declared.clauses.Clause.{Clause}
-use Rattle.ag_annex.specs.declared.clauses.Clause.TheVariants as clause
+use Rattle.ag_terms.specs.declared.clauses.Clause.{Clause}
+use Rattle.ag_terms.specs.declared.clauses.Clause.TheVariants as clause
 use Rattle.ag_unparse.specs.Canonical.{inside_text}
 use Rattle.ag_unparse.specs.Printable.{is_label, are_printable_clauses}
 use Rattle.ag_unparse.proofs.TextsWords.{is_plain_byte, IsOfTexts, LabelHas, LabelsHave, inside_has}

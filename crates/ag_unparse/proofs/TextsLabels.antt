@@ -23,9 +23,9 @@ use Rattle.ag_lex.specs.Tokens.{Piece, Space, Comment, Lexeme, AreRead, token_of
 use Rattle.ag_aadl.specs.declared.marked.Marked.{Marked}
 use Rattle.ag_aadl.specs.Marked.{marked, own, under, first_of, is_among, up_to, segments}
 use Rattle.ag_aadl.specs.Words.{listed}
-use Rattle.ag_annex.specs.declared.clauses.Clause.{Clause}
-use Rattle.ag_annex.specs.declared.clauses.Clause.TheVariants as clause
-use Rattle.ag_annex.specs.declared.clauses.Site.{Site}
+use Rattle.ag_terms.specs.declared.clauses.Clause.{Clause}
+use Rattle.ag_terms.specs.declared.clauses.Clause.TheVariants as clause
+use Rattle.ag_terms.specs.declared.clauses.Site.{Site}
 use Rattle.ag_annex.specs.Annexes.{AreAnnexTokens, IsAnnex}
 use Rattle.ag_annex.specs.Clauses.{value_of, some_value, vars_of, var_of, equal_of, label_of, labelled_of, node_of, clause_under, clause_of, first_mark, clause_marks}
 use Rattle.ag_annex.specs.Grammar.{annex}

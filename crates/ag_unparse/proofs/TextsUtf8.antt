@@ -6,8 +6,8 @@ use Rattle.std.proofs.lemmas.Bool.{and_parts}
 use Rattle.std.proofs.lemmas.Bool.Decides.{nat_tests}
 use Rattle.std.proofs.lemmas.Str.{IsUtf8-from_ascii, IsUtf8-append}
 use Rattle.std.proofs.lemmas.Str.Ascii.{IsAscii-nil, IsAscii-cons}
-use Rattle.ag_annex.specs.declared.clauses.Clause.{Clause}
-use Rattle.ag_annex.specs.declared.clauses.Clause.TheVariants as clause
+use Rattle.ag_terms.specs.declared.clauses.Clause.{Clause}
+use Rattle.ag_terms.specs.declared.clauses.Clause.TheVariants as clause
 use Rattle.ag_unparse.specs.Canonical.{inside_text}
 use Rattle.ag_unparse.specs.Printable.{is_label, are_printable_clauses, IsLabelText, AreLabelsText}
 use Rattle.ag_unparse.proofs.TextsWords.{is_plain_byte, IsOfTexts, LabelHas, LabelsHave, inside_has}

@@ -4,13 +4,13 @@ use Rattle.std.specs.Prelude.{codes}
 use Rattle.std.specs.List.{flat_map}
 use Rattle.std.specs.Result.{OnOk}
 use Rattle.std.proofs.lemmas.Result.{on_ok_weaker}
-use Rattle.ag_annex.specs.declared.clauses.Clause.{Clause}
-use Rattle.ag_annex.specs.declared.clauses.Clause.TheVariants as clause
-use Rattle.ag_annex.specs.declared.clauses.Equal.{Equal}
-use Rattle.ag_annex.specs.declared.clauses.Labelled.{Labelled}
-use Rattle.ag_annex.specs.declared.clauses.NodeDef.{NodeDef}
-use Rattle.ag_annex.specs.declared.clauses.Var.{Var}
-use Rattle.ag_annex.specs.declared.terms.Term.{Term}
+use Rattle.ag_terms.specs.declared.clauses.Clause.{Clause}
+use Rattle.ag_terms.specs.declared.clauses.Clause.TheVariants as clause
+use Rattle.ag_terms.specs.declared.clauses.Equal.{Equal}
+use Rattle.ag_terms.specs.declared.clauses.Labelled.{Labelled}
+use Rattle.ag_terms.specs.declared.clauses.NodeDef.{NodeDef}
+use Rattle.ag_terms.specs.declared.clauses.Var.{Var}
+use Rattle.ag_terms.specs.declared.terms.Term.{Term}
 use Rattle.ag_annex.specs.Marks.{eq_mark, const_mark, node_mark, node_name_mark, returns_mark, let_mark, tel_mark, end_mark}
 use Rattle.ag_unparse.specs.Layout.{Spelled}
 use Rattle.ag_unparse.specs.Canonical.{name_at, sign_at, sign, label_word, term_words, var_words, vars_words, value_words, some_value_words, equal_words, labelled_words, locals_words, node_words, clause_words}

@@ -4,12 +4,12 @@ use Rattle.std.specs.Prelude.{codes}
 use Rattle.std.specs.Result.{OnOk}
 use Rattle.std.proofs.lemmas.List.{take_all}
 use Rattle.ag_base.specs.declared.place.Place.{Place}
-use Rattle.ag_aadl.specs.declared.packages.Path.{Path}
-use Rattle.ag_annex.specs.declared.terms.Binary.{Binary}
-use Rattle.ag_annex.specs.declared.terms.Binary.TheVariants.{Arrow, Implies, Iff, Or, And, Less, AtMost, More, AtLeast, Same, Differs, Plus, Minus, Times, Div, Mod}
-use Rattle.ag_annex.specs.declared.terms.Term.{Term}
-use Rattle.ag_annex.specs.declared.terms.Term.TheViews as term
-use Rattle.ag_annex.specs.declared.terms.Unary.{Unary}
+use Rattle.ag_terms.specs.declared.names.Path.{Path}
+use Rattle.ag_terms.specs.declared.terms.Binary.{Binary}
+use Rattle.ag_terms.specs.declared.terms.Binary.TheVariants.{Arrow, Implies, Iff, Or, And, Less, AtMost, More, AtLeast, Same, Differs, Plus, Minus, Times, Div, Mod}
+use Rattle.ag_terms.specs.declared.terms.Term.{Term}
+use Rattle.ag_terms.specs.declared.terms.Term.TheViews as term
+use Rattle.ag_terms.specs.declared.terms.Unary.{Unary}
 use Rattle.ag_annex.specs.Marks.{if_mark, then_mark, else_mark, call_mark}
 use Rattle.ag_unparse.specs.Layout.{Spelled}
 use Rattle.ag_unparse.specs.Canonical.{name_at, sign_at, path_words, binary_word, open_word, close_word, term_words}

@@ -5,17 +5,17 @@ use Rattle.std.specs.Str.{IsUtf8}
 use Rattle.ag_lex.specs.declared.token.TokenKind.TheVariants.{Name}
 use Rattle.ag_lex.specs.Characters.{is_text_byte}
 use Rattle.ag_lex.specs.Spelling.{is_name, has_close}
-use Rattle.ag_aadl.specs.declared.packages.Ident.{Ident}
-use Rattle.ag_aadl.specs.declared.packages.Path.{Path}
-use Rattle.ag_annex.specs.declared.clauses.Clause.{Clause}
-use Rattle.ag_annex.specs.declared.clauses.Clause.TheVariants as clause
-use Rattle.ag_annex.specs.declared.clauses.Equal.{Equal}
-use Rattle.ag_annex.specs.declared.clauses.Labelled.{Labelled}
-use Rattle.ag_annex.specs.declared.clauses.NodeDef.{NodeDef}
-use Rattle.ag_annex.specs.declared.clauses.Site.{Site}
-use Rattle.ag_annex.specs.declared.clauses.Site.TheVariants as site
-use Rattle.ag_annex.specs.declared.clauses.Var.{Var}
-use Rattle.ag_annex.specs.declared.terms.Term.{Term, Number, Truth, Named, Unary', Binary', Choice', Call', Row_of-Term, end_of-Term, more_of-Term}
+use Rattle.ag_terms.specs.declared.names.Ident.{Ident}
+use Rattle.ag_terms.specs.declared.names.Path.{Path}
+use Rattle.ag_terms.specs.declared.clauses.Clause.{Clause}
+use Rattle.ag_terms.specs.declared.clauses.Clause.TheVariants as clause
+use Rattle.ag_terms.specs.declared.clauses.Equal.{Equal}
+use Rattle.ag_terms.specs.declared.clauses.Labelled.{Labelled}
+use Rattle.ag_terms.specs.declared.clauses.NodeDef.{NodeDef}
+use Rattle.ag_terms.specs.declared.clauses.Site.{Site}
+use Rattle.ag_terms.specs.declared.clauses.Site.TheVariants as site
+use Rattle.ag_terms.specs.declared.clauses.Var.{Var}
+use Rattle.ag_terms.specs.declared.terms.Term.{Term, Number, Truth, Named, Unary', Binary', Choice', Call', Row_of-Term, end_of-Term, more_of-Term}
 use Rattle.ag_annex.specs.Terminals.{name}
 use Rattle.ag_annex.specs.Words.{terminal_of}
 use Rattle.ag_unparse.specs.Canonical.{package_parts}

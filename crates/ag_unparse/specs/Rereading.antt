@@ -5,8 +5,8 @@ use Rattle.ag_lex.specs.declared.token.Language.TheVariants.{Agree}
 use Rattle.ag_lex.specs.declared.token.Token.{Token}
 use Rattle.ag_lex.specs.Answers.{AreKept}
 use Rattle.ag_aadl.specs.declared.marked.Marked.{Marked}
-use Rattle.ag_annex.specs.declared.clauses.Clause.{Clause}
-use Rattle.ag_annex.specs.declared.clauses.Site.{Site}
+use Rattle.ag_terms.specs.declared.clauses.Clause.{Clause}
+use Rattle.ag_terms.specs.declared.clauses.Site.{Site}
 use Rattle.ag_annex.specs.Annexes.{IsAnnex}
 use Rattle.ag_annex.specs.Clauses.{clauses_of}
 use Rattle.ag_annex.specs.Rules.{Obeys}

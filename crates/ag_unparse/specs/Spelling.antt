@@ -5,7 +5,7 @@ use Rattle.ag_grammar.specs.declared.grammar.Step.{Step}
 use Rattle.ag_grammar.specs.Texts.{IsText, marks_of}
 use Rattle.ag_lex.specs.declared.token.Token.{Token}
 use Rattle.ag_aadl.specs.Marked.{own}
-use Rattle.ag_annex.specs.declared.clauses.Clause.{Clause}
+use Rattle.ag_terms.specs.declared.clauses.Clause.{Clause}
 use Rattle.ag_annex.specs.Grammar.{annex}
 use Rattle.ag_annex.specs.Words.{terminal_of}
 use Rattle.ag_unparse.specs.Canonical.{clause_words}

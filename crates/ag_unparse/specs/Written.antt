@@ -1,8 +1,8 @@
 -- What a writer has written, word by word and line by line.
 use Rattle.std.specs.Prelude.{ℕ, Bool, true, ◌||◌, List, [], ◌∷◌, ◌++◌, codes, if◌then◌else◌}
-use Rattle.ag_annex.specs.declared.terms.Term.{Term}
-use Rattle.ag_annex.specs.declared.terms.Unary.{Unary}
-use Rattle.ag_annex.specs.declared.terms.Unary.TheVariants as unary
+use Rattle.ag_terms.specs.declared.terms.Term.{Term}
+use Rattle.ag_terms.specs.declared.terms.Unary.{Unary}
+use Rattle.ag_terms.specs.declared.terms.Unary.TheVariants as unary
 use Rattle.ag_annex.specs.Marks.{negative_mark, not_mark, pre_mark, operand_mark, argument_mark}
 use Rattle.ag_unparse.specs.Canonical.{name_at, sign_at, open_word, term_words}
 use Rattle.ag_unparse.specs.Layout.{Spelled, joins_before, joins_behind}

@@ -1,6 +1,6 @@
 //! What canonical text depends on.
 ghost use Rattle.std.specs.Prelude.{◌≡◌, List};
-ghost use Rattle.ag_annex.specs.declared.clauses.Clause.{Clause};
+ghost use Rattle.ag_terms.specs.declared.clauses.Clause.{Clause};
 ghost use Rattle.ag_unparse.specs.Canonical.{clauses_text};
 ghost use Rattle.ag_unparse.specs.Same.{SameClauses};
 

@@ -1,8 +1,8 @@
 //! Which clauses have a canonical text.
 ghost use Rattle.std.specs.Prelude.{ℕ, List};
 ghost use Rattle.ag_lex.specs.declared.token.Token.{Token};
-ghost use Rattle.ag_annex.specs.declared.clauses.Clause.{Clause};
-ghost use Rattle.ag_annex.specs.declared.clauses.Site.{Site};
+ghost use Rattle.ag_terms.specs.declared.clauses.Clause.{Clause};
+ghost use Rattle.ag_terms.specs.declared.clauses.Site.{Site};
 ghost use Rattle.ag_annex.specs.Annexes.{AreAnnexTokens, IsAnnex};
 ghost use Rattle.ag_unparse.specs.Rereading.{MayBePrinted};
 

@@ -1,7 +1,7 @@
 //! The tokens of canonical text.
 ghost use Rattle.std.specs.Prelude.{ℕ, List, IsTrue};
 ghost use Rattle.ag_lex.specs.declared.token.Token.{Token};
-ghost use Rattle.ag_annex.specs.declared.clauses.Clause.{Clause};
+ghost use Rattle.ag_terms.specs.declared.clauses.Clause.{Clause};
 ghost use Rattle.ag_unparse.specs.Printable.{are_printable_clauses};
 ghost use Rattle.ag_unparse.specs.Rereading.{AreRead};
 

@@ -2,7 +2,7 @@ use Rattle.std.proofs.Common.{◌≡◌, ◌+◌, Bool, suc, ◌∷◌, get_or, 
 use Rattle.std.proofs.Math.Seq.{drop-cons}
 use Rattle.ag_base.specs.declared.place.Rule.TheVariants.{Unsupported}
 use Rattle.ag_aadl.specs.Unsupported.{first_bad_rule}
-use Rattle.ag_aadl.specs.Words.{same}
+use Rattle.ag_terms.specs.Names.{same}
 use Rattle.ag_aadl.proofs.unsupported.first_bad_rule.Goals as goal
 
 pub loop-word-preserved : goal.loop-word-preserved

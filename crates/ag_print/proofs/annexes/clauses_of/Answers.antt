@@ -1,7 +1,7 @@
 use Rattle.std.proofs.Common.{◌≡◌, Err, ap, subst, sym, ◌∙◌, map, take, List, ◌+◌}
 use Rattle.ag_base.specs.declared.place.Refused.TheVariants.{Model}
 use Rattle.std.specs.List.{AllZip}
-use Rattle.ag_annex.specs.declared.clauses.Clause.{Clause}
+use Rattle.ag_terms.specs.declared.clauses.Clause.{Clause}
 use Rattle.ag_print.specs.Shares.{placed, StatesThese}
 use Rattle.ag_print.proofs.AnnexesRead.{annex_tokens, clause_refused, clauses_more}
 use Rattle.ag_print.proofs.annexes.clauses_of.Goals as goal

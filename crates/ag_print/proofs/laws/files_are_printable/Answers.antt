@@ -11,4 +11,4 @@ pub returns-clause-annexes : goal.returns-clause-annexes
 returns-clause-annexes c = annexes_are_among
 
 pub returns-clause-stated : goal.returns-clause-stated
-returns-clause-stated c = stated_may_be_printed c.annexes_may_be_printed.ensures c.labels_are_text.ensures
+returns-clause-stated c = stated_may_be_printed c.annexes_may_be_printed.ensures c.labels_are_text.ensures c.files_are_text.ensures

@@ -6,6 +6,9 @@ print_packages-requires-clause-among c =
     let read = c.requires.read in
     c.files_are_printable.ensures.annexes read.file c.args.bytes.now read.tokens c.args.packages.now read.kept read.read
 
+pub print_packages-requires-clause-text : goal.print_packages-requires-clause-text
+print_packages-requires-clause-text c = c.files_are_text.ensures c.args.bytes.now c.requires.read.kept.kept
+
 pub returns-clause-ok : goal.returns-clause-ok
 returns-clause-ok c =
     let read = c.requires.read in

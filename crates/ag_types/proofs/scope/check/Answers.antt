@@ -2,7 +2,7 @@
 use Rattle.std.proofs.Common.{ap, sym, ◌∙◌}
 use Rattle.std.specs.Prelude.{Contains, ◌⊎◌}
 use Rattle.std.proofs.Math.Path.{subst}
-use Rattle.ag_symbols.specs.Seen.{Seen}
+use Rattle.ag_symbols.specs.Seen.{Seen, seen_of}
 use Rattle.ag_types.specs.Answers.{Breaks, IsFirst}
 use Rattle.ag_types.specs.ClauseFaults.{faults_of}
 use Rattle.ag_types.specs.NumberFaults.{number_faults}
@@ -13,7 +13,7 @@ use Rattle.ag_types.proofs.scope.check.Goals as goal
 
 pub returns-clause-broken : goal.returns-clause-broken
 returns-clause-broken c =
-    let s : Seen = record { library = c.args.library.now; frame = c.args.frame.now; body = c.args.body.now; ports = c.args.ports.now } in
+    let s : Seen = seen_of c.args.library.now c.args.frame.now c.args.body.now c.args.ports.now in
     let values = c.in_ok-evaluated.evaluated.values.items in
     let names = subst (IsFirst (Contains (faults_of s))) (sym c.in_ok-of_names.ensures) (first_in (faults_of s)) in
     let numbers = subst (IsFirst (Contains (number_faults s values))) (sym (c.in_ok-of_numbers.ensures ∙ ap (λ z. first_broken (number_faults s z)) c.as_slice.ensures.value)) (first_in (number_faults s values)) in
@@ -23,5 +23,5 @@ returns-clause-broken c =
 
 pub returns-clause-typed : goal.returns-clause-typed
 returns-clause-typed c = λ e.
-    let s : Seen = record { library = c.args.library.now; frame = c.args.frame.now; body = c.args.body.now; ports = c.args.ports.now } in
+    let s : Seen = seen_of c.args.library.now c.args.frame.now c.args.body.now c.args.ports.now in
     c.in_ok-evaluated.ensures.typed (subst (IsFirst (Breaks s c.in_ok-evaluated.evaluated.values.items)) e (returns-clause-broken c))

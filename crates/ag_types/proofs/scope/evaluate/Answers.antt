@@ -2,10 +2,10 @@
 use Rattle.std.proofs.Common.{◌≡◌, ℕ, ◌++◌, List, refl, ap, ◌∙◌}
 use Rattle.std.proofs.Math.Path.{subst}
 use Rattle.std.specs.List.{flat_map}
-use Rattle.ag_annex.specs.declared.clauses.Clause.{Clause}
-use Rattle.ag_annex.specs.declared.clauses.Var.{Var}
+use Rattle.ag_terms.specs.declared.clauses.Clause.{Clause}
+use Rattle.ag_terms.specs.declared.clauses.Var.{Var}
 use Rattle.ag_graph.specs.Circles.{AreCircles}
-use Rattle.ag_symbols.specs.Seen.{Seen, Names, library_names, frame_names, names_seen}
+use Rattle.ag_symbols.specs.Seen.{Seen, Names, library_names, frame_names, names_seen, seen_of}
 use Rattle.ag_types.specs.Uses.{Constant, constant_in, constants_of}
 use Rattle.ag_types.proofs.ConstantsTyped.{constants_are_typed}
 use Rattle.ag_types.proofs.scope.evaluate.Goals as goal
@@ -14,7 +14,7 @@ use Rattle.ag_types.proofs.scope.evaluate.Goals as goal
 abbrev of_sites : Names → Names → Names → List Clause → List Clause → List Clause → List Constant
 of_sites l f b library frame body = flat_map (constant_in l) library ++ (flat_map (constant_in f) frame ++ flat_map (constant_in b) body)
 
-constants_are : (s : Seen) (cs : List Constant) (l f b : Names) (library frame body : List Clause) (ports : List Var) → s ≡ record { library = library; frame = frame; body = body; ports = ports } →
+constants_are : (s : Seen) (cs : List Constant) (l f b : Names) (library frame body : List Clause) (ports : List Var) → s ≡ seen_of library frame body ports →
     l ≡ library_names s → f ≡ frame_names s → b ≡ names_seen s → cs ≡ of_sites l f b library frame body → cs ≡ constants_of s
 constants_are s cs l f b library frame body ports e of_l of_f of_b h =
     let at_library : s.library ≡ library = ap (λ (z : Seen). z.library) e in

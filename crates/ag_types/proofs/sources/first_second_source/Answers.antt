@@ -1,7 +1,7 @@
 use Rattle.std.proofs.Common.{◌≡◌, List, refl, ◌∙◌}
 use Rattle.std.specs.List.{flat_map}
-use Rattle.ag_aadl.specs.declared.packages.Ident.{Ident}
-use Rattle.ag_symbols.specs.Seen.{Seen, clauses_seen}
+use Rattle.ag_terms.specs.declared.names.Ident.{Ident}
+use Rattle.ag_symbols.specs.Seen.{Seen, clauses_seen, seen_of}
 use Rattle.ag_types.specs.ClauseFaults.{assign_in, second_source}
 use Rattle.ag_types.specs.Places.{first_broken}
 use Rattle.ag_types.proofs.BreakingMore.{broken_more}
@@ -10,7 +10,7 @@ use Rattle.ag_types.proofs.sources.first_second_source.Goals as goal
 
 pub loop-name-preserved : goal.loop-name-preserved
 loop-name-preserved c =
-    let s : Seen = record { library = c.args.library.now; frame = c.args.frame.now; body = c.args.body.now; ports = c.args.ports.now } in
+    let s : Seen = seen_of c.args.library.now c.args.frame.now c.args.body.now c.args.ports.now in
     let assigns : List Ident = flat_map assign_in (clauses_seen s) in
     let i : Ident = c.name-item.result.now in
     let broken : c.source_of.result ≡ first_broken (second_source s assigns i) =

@@ -3,7 +3,7 @@ use Rattle.std.specs.Prelude.{Option}
 use Rattle.std.specs.List.Sorted.{IsSortedBy}
 use Rattle.std.specs.Ordering.{is_lt, is_eq}
 use Rattle.std.proofs.lemmas.List.Sorted.{IsPartitionPoint-from_clause}
-use Rattle.ag_aadl.specs.declared.packages.Ident.{Ident}
+use Rattle.ag_terms.specs.declared.names.Ident.{Ident}
 use Rattle.ag_symbols.specs.Indexed.{compare_names}
 use Rattle.ag_symbols.proofs.Orders.{parted, first_found, first_missed, first_at_end}
 use Rattle.ag_types.specs.ClauseFaults.{is_declared_before}

@@ -1,7 +1,7 @@
 use Rattle.std.proofs.Common.{List, map, refl, subst, ◌∙◌}
 use Rattle.std.specs.List.Sorted.{IsPermutation}
 use Rattle.std.proofs.lemmas.List.Sorted.{IsPermutation-map}
-use Rattle.ag_aadl.specs.declared.packages.Ident.{Ident}
+use Rattle.ag_terms.specs.declared.names.Ident.{Ident}
 use Rattle.ag_types.proofs.earliest.Earliest.make.Goals as goal
 
 pub returns : goal.returns

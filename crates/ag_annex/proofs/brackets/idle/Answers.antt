@@ -1,0 +1,5 @@
+use Rattle.std.proofs.Common.{refl}
+use Rattle.ag_annex.proofs.brackets.idle.Goals as goal
+
+pub returns : goal.returns
+returns c = refl
