@@ -7,6 +7,5 @@ mod Sums
 mod Unfolds
 mod Combining
 mod Deciding
-mod TestRows
 mod Fanning
 mod Starting

@@ -12,7 +12,7 @@ use std::alloc::Global;
 
 /// Says that the value of `to` is at most that of `from` and the weight. Vertices are the variables
 /// by number, and one more behind them that is worth 0.
-#[derive(Clone, Copy, Debug)]
+#[derive(Clone, Copy)]
 pub struct Edge {
     pub from: u32,
     pub to: u32,

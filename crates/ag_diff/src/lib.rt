@@ -18,6 +18,3 @@ mod vertices;
 
 pub use engine::DiffEngine;
 pub use query::is_difference_query;
-
-#[cfg(test)]
-mod tests;

@@ -8,7 +8,7 @@ use ag_base::{List, OutOfMemory};
 use std::alloc::Global;
 
 /// A vertex of the edges.
-#[derive(Clone, Copy, Debug)]
+#[derive(Clone, Copy)]
 pub struct Vertex {
     /// It begins at 0 at most, and sinks.
     pub value: i64,

@@ -19,6 +19,3 @@ pub use kernel::Kernel;
 pub use line::{KernelFault, Line};
 pub use marks::Marked;
 pub use theory::{Found, Theory};
-
-#[cfg(test)]
-mod tests;

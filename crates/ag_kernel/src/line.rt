@@ -11,7 +11,7 @@ pub struct Line {
 }
 
 /// Why a rule gives no line.
-#[derive(Clone, Copy, Debug, PartialEq, Eq)]
+#[derive(Clone, Copy, PartialEq)]
 pub enum KernelFault {
     /// No line has this number, the first such one that was named.
     NotThere(u32),

@@ -13,7 +13,7 @@ use ag_base::OutOfMemory;
 use ag_query::Lit;
 
 /// Which literals of a line are left, where those are gone whose contraries a list has.
-#[derive(Clone, Copy, Debug)]
+#[derive(Clone, Copy)]
 pub enum Left {
     Nothing,
     One(Lit),

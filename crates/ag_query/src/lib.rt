@@ -12,6 +12,3 @@ pub mod rows;
 pub use clauses::{LClause, Lit, Lits};
 pub use query::{Query, Valuation};
 pub use rows::{Atom, LRow, LTerm, Terms};
-
-#[cfg(test)]
-mod tests;

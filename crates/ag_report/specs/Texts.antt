@@ -4,7 +4,6 @@ use Rattle.std.specs.List.{flat_map, enumerate_from, range_with_len}
 use Rattle.std.specs.Option.{option_map}
 use Rattle.std.specs.Arc.{arc_value}
 use Rattle.std.specs.declared.sync.Arc.{Arc}
-use Rattle.ag_base.specs.declared.place.Place.{Place}
 use Rattle.ag_stream.specs.declared.problem.Instant.{Instant}
 use Rattle.ag_stream.specs.Values.{flag_at}
 use Rattle.ag_verdict.specs.declared.key.Key.{Key}
@@ -27,10 +26,6 @@ abbrev pub published : ℕ → ℕ → ℕ → ℕ → List ℕ
 published revision count carried cancelled =
     codes "revision " ++ decimal revision ++ codes ": " ++ decimal count ++ codes " obligations, "
     ++ decimal carried ++ codes " carried, " ++ decimal cancelled ++ codes " cancelled\n"
-
--- the text of the source departs at this place from what this version reads
-abbrev pub refused : Place → List ℕ
-refused place = codes "refused -:" ++ decimal place.line ++ codes ":" ++ decimal place.column ++ codes " NotBuilt\n"
 
 -- each obligation of the revision has a verdict
 abbrev pub settled : ℕ → List ℕ

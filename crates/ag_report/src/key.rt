@@ -4,6 +4,7 @@ ghost use Rattle.std.specs.String.{string_bytes};
 ghost use Rattle.ag_small.specs.declared.package.ClaimKind.TheVariants as kinds;
 ghost use Rattle.ag_report.specs.Texts.{clause_text, key_text, labels, nth, own_label, label_text};
 
+use crate::numbers::push_numbered;
 use ag_base::{List, OutOfMemory, Text};
 use ag_small::{Claim, ClaimKind};
 use ag_verdict::{Key, KeyKind};
@@ -14,9 +15,9 @@ fn push_clause(text: &mut String, kind: KeyKind, number: u32) -> Result<(), OutO
     ensures { OnOk result (string_bytes text.new ≡ string_bytes text.old ++ clause_text kind number) }
 {
     match kind {
-        KeyKind::Assume => write!(text, "assume {number}")?,
-        KeyKind::Lemma => write!(text, "lemma {number}")?,
-        KeyKind::Guarantee => write!(text, "guarantee {number}")?,
+        KeyKind::Assume => push_numbered(text, "assume ", number as usize)?,
+        KeyKind::Lemma => push_numbered(text, "lemma ", number as usize)?,
+        KeyKind::Guarantee => push_numbered(text, "guarantee ", number as usize)?,
         KeyKind::Consistent => text.push_str("consistent")?,
     }
     Ok(())

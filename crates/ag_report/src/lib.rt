@@ -5,12 +5,10 @@
 
 mod key;
 mod lines;
+mod numbers;
 mod report;
 mod run;
 mod table;
 
-pub use lines::{closed_line, published_line, refused_line, settled_line};
+pub use lines::{closed_line, published_line, settled_line};
 pub use report::report_text;
-
-#[cfg(test)]
-mod tests;

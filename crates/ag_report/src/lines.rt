@@ -1,9 +1,9 @@
 //! Replies of one line.
-ghost use Rattle.std.specs.Prelude.{◌≡◌, ◌++◌, decimal, IfOk, OnOk};
-ghost use Rattle.std.specs.String.{string_bytes};
-ghost use Rattle.ag_report.specs.Texts.{published, refused, settled, closed};
+ghost use Rattle.std.specs.Prelude.{◌≡◌, IfOk};
+ghost use Rattle.ag_report.specs.Texts.{published, settled, closed};
 
-use ag_base::{Bytes, List, OutOfMemory, Place};
+use crate::numbers::{push_line, push_numbered};
+use ag_base::{Bytes, List, OutOfMemory};
 use std::alloc::Global;
 
 /// A revision was published: how many obligations it has, how many of them kept an earlier verdict,
@@ -17,18 +17,12 @@ pub fn published_line(
 ) -> Result<Bytes, OutOfMemory>
     ensures { IfOk result (λ text. text ≡ published revision count carried cancelled) }
 {
-    let text = format!(in alloc;
-        "revision {revision}: {count} obligations, {carried} carried, {cancelled} cancelled\n"
-    )?;
-    Ok(List::from_vec(text.into_bytes()))
-}
-
-/// The text of the source departs at this place from what this version reads.
-pub fn refused_line(alloc: Global, place: Place) -> Result<Bytes, OutOfMemory>
-    ensures { IfOk result (λ text. text ≡ refused place) }
-{
-    let Place { line, column, .. } = place;
-    let text = format!(in alloc; "refused -:{line}:{column} NotBuilt\n")?;
+    let mut text = String::new(alloc);
+    push_numbered(&mut text, "revision ", revision as usize)?;
+    push_numbered(&mut text, ": ", count as usize)?;
+    push_numbered(&mut text, " obligations, ", carried as usize)?;
+    push_numbered(&mut text, " carried, ", cancelled as usize)?;
+    text.push_str(" cancelled\n")?;
     Ok(List::from_vec(text.into_bytes()))
 }
 
@@ -36,16 +30,9 @@ pub fn refused_line(alloc: Global, place: Place) -> Result<Bytes, OutOfMemory>
 pub fn settled_line(alloc: Global, revision: u32) -> Result<Bytes, OutOfMemory>
     ensures { IfOk result (λ text. text ≡ settled revision) }
 {
-    let text = format!(in alloc; "settled {revision}\n")?;
+    let mut text = String::new(alloc);
+    push_line(&mut text, "settled ", revision as usize)?;
     Ok(List::from_vec(text.into_bytes()))
-}
-
-/// Appends a count and what is counted.
-fn push_count(text: &mut String, count: u32, what: &str) -> Result<(), OutOfMemory>
-    ensures { OnOk result (string_bytes text.new ≡ string_bytes text.old ++ decimal count ++ what.now) }
-{
-    write!(text, "{count}{what}")?;
-    Ok(())
 }
 
 /// The session ended at this revision, with so many verdicts of each kind.
@@ -60,11 +47,13 @@ pub fn closed_line(
 ) -> Result<Bytes, OutOfMemory>
     ensures { IfOk result (λ text. text ≡ closed revision proved refuted consistent inconsistent unknown) }
 {
-    let mut text = format!(in alloc; "closed {revision}: ")?;
-    push_count(&mut text, proved, " proved, ")?;
-    push_count(&mut text, refuted, " refuted, ")?;
-    push_count(&mut text, consistent, " consistent, ")?;
-    push_count(&mut text, inconsistent, " inconsistent, ")?;
-    push_count(&mut text, unknown, " unknown\n")?;
+    let mut text = String::new(alloc);
+    push_numbered(&mut text, "closed ", revision as usize)?;
+    push_numbered(&mut text, ": ", proved as usize)?;
+    push_numbered(&mut text, " proved, ", refuted as usize)?;
+    push_numbered(&mut text, " refuted, ", consistent as usize)?;
+    push_numbered(&mut text, " consistent, ", inconsistent as usize)?;
+    push_numbered(&mut text, " inconsistent, ", unknown as usize)?;
+    text.push_str(" unknown\n")?;
     Ok(List::from_vec(text.into_bytes()))
 }

@@ -1,35 +1,25 @@
 //! The report of a revision.
-ghost use Rattle.std.specs.Prelude.{◌≡◌, ◌++◌, [], map, codes, decimal, length, OnOk, IfOk};
+ghost use Rattle.std.specs.Prelude.{◌≡◌, ◌++◌, [], map, codes, decimal, OnOk, IfOk};
+ghost use Rattle.std.specs.List.{flat_map};
 ghost use Rattle.std.specs.String.{string_bytes};
 ghost use Rattle.std.specs.Option.{option_copied};
-ghost use Rattle.ag_report.specs.Texts.{why_text, verdict_text, answer_text, key_text, label_text, report_of, plain};
+ghost use Rattle.ag_report.specs.Texts.{why_text, verdict_text, answer_text, key_text, label_text, block, report_of, plain};
 
 use crate::key::{Labels, push_key, push_label};
+use crate::numbers::{push_between, push_line};
 use crate::run::push_run;
 use ag_base::{Bytes, List, OutOfMemory};
 use ag_small::{Package, Port};
-use ag_stream::Instant;
 use ag_verdict::{Key, Verdict, Why};
 use std::alloc::Global;
 use std::sync::Arc;
-
-/// Appends a line that ends with how many instants there are.
-fn push_length(text: &mut String, words: &str, instants: &[Instant]) -> Result<(), OutOfMemory>
-    ensures { OnOk result (string_bytes text.new ≡ string_bytes text.old
-        ++ (words.now ++ decimal (length instants.now) ++ codes "\n")) }
-{
-    let count = instants.len();
-    writeln!(text, "{words}{count}")?;
-    Ok(())
-}
 
 /// Appends up to which depth nothing is known.
 fn push_depth(text: &mut String, depth: u32) -> Result<(), OutOfMemory>
     ensures { OnOk result (string_bytes text.new ≡ string_bytes text.old
         ++ (codes "unknown depth=" ++ decimal depth ++ codes " limit=")) }
 {
-    write!(text, "unknown depth={depth} limit=")?;
-    Ok(())
+    push_between(text, "unknown depth=", depth as usize, " limit=")
 }
 
 /// Appends which limit was spent.
@@ -59,15 +49,13 @@ fn push_verdict(
         ++ verdict_text ports.now sought verdict.now) }
 {
     match verdict {
-        Verdict::Proved { k } => writeln!(text, "proved k={k}")?,
+        Verdict::Proved { k } => push_line(text, "proved k=", *k as usize)?,
         Verdict::Refuted { run } => {
-            push_length(text, "refuted at ", run.instants.as_slice())?;
+            push_line(text, "refuted at ", run.instants.len())?;
             push_run(alloc, text, ports, None, run.instants.as_slice())?;
         }
-        Verdict::Consistent { run } => {
-            push_length(text, "consistent ", run.instants.as_slice())?;
-        }
-        Verdict::Inconsistent => writeln!(text, "inconsistent {sought}")?,
+        Verdict::Consistent { run } => push_line(text, "consistent ", run.instants.len())?,
+        Verdict::Inconsistent => push_line(text, "inconsistent ", sought as usize)?,
         Verdict::Unknown { depth, why } => {
             push_depth(text, *depth)?;
             push_why(alloc, text, ports, why)?;
@@ -104,6 +92,26 @@ fn push_head(text: &mut String, own: &Labels, key: &Key) -> Result<(), OutOfMemo
     Ok(())
 }
 
+/// Appends each obligation and what is known of it.
+fn push_blocks(
+    alloc: Global,
+    text: &mut String,
+    package: &Package,
+    sought: u32,
+    lines: &[(Key, Option<Arc<Verdict>>)],
+) -> Result<(), OutOfMemory>
+    ensures { OnOk result (string_bytes text.new ≡ string_bytes text.old
+        ++ flat_map (block «package».now sought) (map plain lines.now)) }
+{
+    let ports = package.ports.as_slice();
+    let labels = Labels::make(alloc, package.claims.as_slice())?;
+    for (key, verdict) in lines {
+        push_head(text, &labels, key)?;
+        push_answer(alloc, text, ports, sought, verdict.as_deref())?;
+    }
+    Ok(())
+}
+
 /// The report of a revision of a package: each obligation and what is known of it. Runs of the
 /// premises were sought with `sought` instants.
 pub fn report_text(
@@ -115,14 +123,9 @@ pub fn report_text(
 ) -> Result<Bytes, OutOfMemory>
     ensures { IfOk result (λ text. text ≡ report_of «package».now revision sought (map plain lines.now)) }
 {
-    let ports = package.ports.as_slice();
-    let labels = Labels::make(alloc, package.claims.as_slice())?;
     let mut text = String::new(alloc);
-    writeln!(text, "report {revision}")?;
-    for (key, verdict) in lines {
-        push_head(&mut text, &labels, key)?;
-        push_answer(alloc, &mut text, ports, sought, verdict.as_deref())?;
-    }
+    push_line(&mut text, "report ", revision as usize)?;
+    push_blocks(alloc, &mut text, package, sought, lines)?;
     text.push_str("end report\n")?;
     Ok(List::from_vec(text.into_bytes()))
 }

@@ -23,6 +23,17 @@ fn row_names(alloc: Global, ports: &[Port]) -> Result<List<Text>, OutOfMemory>
     Ok(names)
 }
 
+/// The word for a truth.
+fn truth_word(alloc: Global, holds: bool) -> Result<Text, OutOfMemory>
+    ensures { IfOk result (λ word. word ≡ truth_text holds) }
+{
+    if holds {
+        Text::make(alloc, "true")
+    } else {
+        Text::make(alloc, "false")
+    }
+}
+
 /// The words for the truths.
 #[derive(Drop)]
 struct TruthWords {
@@ -34,8 +45,8 @@ struct TruthWords {
 
 impl TruthWords {
     fn make(alloc: Global) -> Result<TruthWords, OutOfMemory> {
-        let yes = Text::make(alloc, "true")?;
-        let no = Text::make(alloc, "false")?;
+        let yes = truth_word(alloc, true)?;
+        let no = truth_word(alloc, false)?;
         Ok(TruthWords { yes, no })
     }
 

@@ -56,6 +56,3 @@ fn whole(alloc: Global, bytes: &[u8]) -> Result<Package, ReadFault>
     }
     Ok(model)
 }
-
-#[cfg(test)]
-mod tests;

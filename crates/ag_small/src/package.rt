@@ -37,7 +37,7 @@ pub struct Claim {
     pub formula: Formula,
 }
 
-#[derive(Clone, Copy, Debug, PartialEq, Eq)]
+#[derive(Clone, Copy, PartialEq)]
 pub enum ClaimKind {
     Assume,
     Guarantee,
@@ -97,7 +97,7 @@ impl Formula {
 }
 
 /// Why no package was read.
-#[derive(Clone, Copy, Debug, PartialEq, Eq)]
+#[derive(Clone, Copy)]
 pub enum ReadFault {
     /// The bytes are no text of the grammar that keeps its rules.
     NotBuilt,

@@ -12,7 +12,7 @@ pub struct Token {
     pub kind: TokenKind,
 }
 
-#[derive(Clone, Copy, PartialEq, Eq)]
+#[derive(Clone, Copy)]
 pub enum TokenKind {
     Word,
     Label,

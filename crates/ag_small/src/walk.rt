@@ -13,7 +13,7 @@ use ag_base::OutOfMemory;
 use std::alloc::{AllocError, Global};
 
 /// Why a walk ends.
-#[derive(Clone, Copy, Debug, PartialEq, Eq)]
+#[derive(Clone, Copy)]
 pub enum Stop {
     /// With what stands at this byte no package can begin.
     At(usize),

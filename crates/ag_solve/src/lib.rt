@@ -8,6 +8,3 @@ mod solver;
 
 pub use ag_tree::Solved;
 pub use solver::solve;
-
-#[cfg(test)]
-mod tests;

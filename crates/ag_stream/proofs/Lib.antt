@@ -7,4 +7,3 @@ pub mod Ordered
 pub mod Moments
 pub mod Settling
 pub mod Same
-pub mod Samples

@@ -12,7 +12,7 @@ use ag_base::OutOfMemory;
 use std::alloc::Global;
 
 /// What a pass over the equations came to.
-#[derive(Clone, Copy, Debug, PartialEq, Eq)]
+#[derive(Clone, Copy)]
 pub enum Spread {
     Met,
     Moved,

@@ -12,7 +12,7 @@ use ag_base::{List, OutOfMemory};
 use std::alloc::Global;
 
 /// Why a run isn't computed.
-#[derive(Clone, Copy, Debug, PartialEq, Eq)]
+#[derive(Clone, Copy)]
 pub enum EvalFault {
     /// The magnitude of a computed value reaches 2^62: the stream, and the instant counted from 1.
     Wide { stream: u16, instant: u32 },

@@ -9,8 +9,6 @@ mod dependence;
 mod evaluation;
 mod laws;
 pub mod problem;
-#[cfg(test)]
-mod tests;
 mod truth;
 
 pub use breaking::{breaks, keeps_premises};

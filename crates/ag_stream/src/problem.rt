@@ -8,11 +8,12 @@ ghost use Rattle.std.specs.Prelude.{◌≡◌, ◌↔◌, IsTrue};
 use crate::dependence::{Plan, plan_of};
 use ag_base::{List, OutOfMemory};
 use std::alloc::Global;
+use std::hash::{Hash, Hasher};
 use std::marker::Model;
 
 /// A stream times a factor that isn't 0. `before` asks for the stream's value of one instant
 /// earlier, which is 0 at the first instant.
-#[derive(Clone, Copy, Debug, PartialEq, Eq)]
+#[derive(Clone, Copy, PartialEq, Eq, Hash)]
 pub struct RowTerm {
     pub stream: u16,
     pub before: bool,
@@ -21,7 +22,7 @@ pub struct RowTerm {
 
 /// A sum of terms and a constant. The terms rise by stream, and of one stream the one of now
 /// stands before the earlier one.
-#[derive(PartialEq, Drop)]
+#[derive(PartialEq, Eq, Hash, Drop)]
 pub struct Row {
     pub terms: List<RowTerm>,
     pub constant: i64,
@@ -30,7 +31,7 @@ pub struct Row {
 /// A Boolean term. Operands are the numbers of earlier parts. `Compare` is true where its row is
 /// at most 0. `Choice` has the test, the part where it is true, and the part where it isn't.
 /// `Arrow` is its first part at the first instant, and its second part from then on.
-#[derive(PartialEq, Drop)]
+#[derive(PartialEq, Eq, Hash, Drop)]
 pub enum Part {
     Truth(bool),
     Flag { stream: u16, before: bool },
@@ -45,7 +46,7 @@ pub enum Part {
 
 /// What a stream equals at every instant. `Flag` is for a Boolean stream, the others for integer
 /// ones: `Div` and `Mod` are the quotient and the remainder, 0 or more, of the row by `by`.
-#[derive(PartialEq, Drop)]
+#[derive(PartialEq, Eq, Hash, Drop)]
 pub enum Equation {
     Flag {
         stream: u16,
@@ -81,7 +82,7 @@ pub enum Equation {
 /// A problem before it is looked at: the equations, the parts that hold so far, those that hold
 /// before the last instant, and the claim. Without a claim, runs of `length` instants are sought;
 /// with one, `length` is 0.
-#[derive(PartialEq, Drop)]
+#[derive(PartialEq, Eq, Hash, Drop)]
 pub struct ProblemDraft {
     pub ints: u16,
     pub flags: u16,
@@ -94,7 +95,7 @@ pub struct ProblemDraft {
 }
 
 /// Why a draft is no problem.
-#[derive(Clone, Copy, Debug, PartialEq, Eq)]
+#[derive(Clone, Copy)]
 pub enum ProblemFault {
     /// The first stream that depends on itself at one instant. A Boolean stream's number counts on
     /// from the integer ones.
@@ -177,20 +178,20 @@ impl Problem {
 }
 
 /// What the streams are at one instant.
-#[derive(PartialEq, Drop)]
+#[derive(Drop)]
 pub struct Instant {
     pub whole: List<i64>,
     pub flags: List<bool>,
 }
 
 /// Instants one after another, from the first one on.
-#[derive(PartialEq, Drop)]
+#[derive(Drop)]
 pub struct Run {
     pub instants: List<Instant>,
 }
 
 /// Instants one after another, behind a prior one or from the first one on.
-#[derive(PartialEq, Drop)]
+#[derive(Drop)]
 pub struct Window {
     pub prior: Option<Instant>,
     pub run: Run,
@@ -206,6 +207,25 @@ impl PartialEq for Problem {
 
     fn eq(&self, other: &Problem) -> bool {
         self.draft() == other.draft()
+    }
+}
+
+impl Eq for Problem {
+    ghost use Rattle.ag_stream.specs.contracts.problem.ProblemDraftEq.TheImpl.Laws as draft_laws;
+
+    ghost laws = { draft_laws.laws-law };
+}
+
+impl Hash for Problem {
+    ghost use Rattle.ag_stream.specs.contracts.problem.ProblemDraftHash.TheImpl as drafts;
+    ghost use Rattle.ag_stream.specs.contracts.problem.ProblemDraftHash.TheImpl.Laws as draft_laws;
+
+    ghost hash_input = { drafts.hash_input-value.it };
+
+    ghost respects_eq = { draft_laws.respects_eq-law };
+
+    fn hash<H: Hasher>(&self, state: &mut H) {
+        self.draft().hash(state)
     }
 }
 

@@ -12,14 +12,14 @@ use std::alloc::{AllocError, Global};
 use std::marker::Model;
 
 /// A literal that was made true: drawn from the line of that number, or chosen.
-#[derive(Clone, Copy, Debug)]
+#[derive(Clone, Copy)]
 pub struct Step {
     pub lit: Lit,
     pub reason: Option<u32>,
 }
 
 /// What a clause says along the literals of a trail.
-#[derive(Clone, Copy, Debug)]
+#[derive(Clone, Copy)]
 pub enum Look {
     /// One of its literals is true, or two of its atoms have no value.
     Rest,

@@ -5,7 +5,7 @@ use ag_base::{OutOfMemory, Text};
 use ag_stream::Problem;
 
 /// What an obligation is about.
-#[derive(Clone, Copy, Debug, PartialEq, Eq)]
+#[derive(Clone, Copy, PartialEq)]
 pub enum KeyKind {
     /// That a component's assumption holds where it is used.
     Assume,
@@ -18,7 +18,7 @@ pub enum KeyKind {
 /// The name of an obligation: the layer, as `Package::Type.implementation`, the component whose
 /// clause it is, if it isn't the layer's own, and the clause's number from 1 within its kind.
 /// The one of kind `Consistent` has number 1.
-#[derive(PartialEq, Drop)]
+#[derive(Drop)]
 pub struct Key {
     pub layer: Text,
     pub member: Option<Text>,

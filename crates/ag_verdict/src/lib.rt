@@ -10,6 +10,3 @@ pub mod verdict;
 
 pub use key::{Key, KeyKind, Obligation};
 pub use verdict::{Fact, Literal, Verdict, Which, Why};
-
-#[cfg(test)]
-mod tests;

@@ -5,7 +5,7 @@ use ag_stream::{Run, Window};
 
 /// A query that a proof by induction asks: a run of so many instants that breaks the problem, a
 /// forbidden window of so many and one, or a run of the premises.
-#[derive(Clone, Copy, Debug, PartialEq, Eq)]
+#[derive(Clone, Copy)]
 pub enum Which {
     Base(u32),
     Step(u32),
@@ -13,7 +13,7 @@ pub enum Which {
 }
 
 /// A name of a query, at an instant, with its truth. Instant 0 is a window's prior one.
-#[derive(Clone, Copy, Debug, PartialEq, Eq)]
+#[derive(Clone, Copy)]
 pub struct Literal {
     pub what: u16,
     pub instant: u8,
@@ -21,13 +21,13 @@ pub struct Literal {
 }
 
 /// One of the literals holds.
-#[derive(PartialEq, Drop)]
+#[derive(Drop)]
 pub struct Fact {
     pub literals: List<Literal>,
 }
 
 /// Which limit was spent, and what it was spent on.
-#[derive(PartialEq, Drop)]
+#[derive(Drop)]
 pub enum Why {
     /// The depth: this window of one instant more is still forbidden.
     Depth {
@@ -46,7 +46,7 @@ pub enum Why {
 }
 
 /// An answer to a problem.
-#[derive(PartialEq, Drop)]
+#[derive(Drop)]
 pub enum Verdict {
     /// The claim holds in every run, by induction over `k` instants and no fewer.
     Proved { k: u32 },
