@@ -13,3 +13,4 @@ mod Reading
 mod Tops
 mod Prints
 mod OnePrint
+mod EachPrint

@@ -1,7 +1,7 @@
 -- Reading a source piece by piece.
-use Rattle.std.proofs.Common.{◌≡◌, ◌∙◌, ◌<◌, ◌≤◌, ◌++◌, ℕ, List, length, drop, Option, Some, None, refl, sym, ap, subst, arith, append_assoc, length-append, inl, inr}
+use Rattle.std.proofs.Common.{◌≡◌, ◌∙◌, ◌<◌, ◌++◌, ℕ, List, length, drop, Option, Some, None, refl, sym, ap, subst, arith, append_assoc, length-append}
 use Rattle.std.specs.Prelude.{IfSome}
-use Rattle.ag_base.specs.Outside.{Takes, Rose}
+use Rattle.ag_base.specs.Outside.{Takes}
 use Rattle.ag_top.specs.Words.{IsTooLong}
 
 -- the source had these bytes and what it has left, where it tells
@@ -21,8 +21,3 @@ pub read_long : (before now : Option (List ℕ)) (bytes : List ℕ) (n : ℕ) �
 read_long None now bytes n h e l = record { text = bytes; read = tt; long = omega arith }
 read_long (Some all) now bytes n h e l =
     record { text = all; read = refl; long = let a = ap (λ (x : List ℕ). length x) h.told.2 in let b = length-append bytes h.told.0 in omega (arith, a, b) }
-
--- what rose since later rose since earlier
-pub rose_from : (a b c : ℕ) → a ≤ b → Rose b c → Rose a c
-rose_from a b c l (inl r) = inl (omega arith)
-rose_from a b c l (inr m) = inr m

@@ -12,7 +12,7 @@ use Rattle.ag_top.specs.declared.history.Posted.TheVariants as ways
 use Rattle.ag_top.specs.Entries.{PlainEntry, claim, work, settled, post, posted}
 use Rattle.ag_top.specs.Store.{Kept, Enters, entry}
 use Rattle.ag_top.specs.Commands.{IsDecision, IsSettling, Grows}
-use Rattle.ag_top.specs.Stages.{DecidesOne, AreDecisions, Decides, Settles}
+use Rattle.ag_top.specs.Stages.{DecidesOne, AreDecisions, Decides, Settles, ClaimsOnceAtMost}
 
 more_decisions : (es : List PlainEntry) (a b : PlainEntry) → AreDecisions es → IsDecision a b → AreDecisions (es ++ a ∷ b ∷ [])
 more_decisions [] a b d e = (e, tt)
@@ -26,11 +26,14 @@ decide_more {old} {middle} {new} d o = record {
   whole = o.whole ∙ (ap (λ (h : List PlainEntry). h ++ o.claimed ∷ o.put ∷ []) d.whole ∙ append_assoc old d.entries (o.claimed ∷ o.put ∷ []));
 }
 
-decisions_settle : (es : List PlainEntry) → AreDecisions es → IsSettling (es ++ entry claim settled ∷ [])
-decisions_settle [] d = refl
-decisions_settle (x ∷ []) d = absurd d
-decisions_settle (x ∷ y ∷ []) d = (d.0, refl)
-decisions_settle (x ∷ y ∷ z ∷ es) d = (d.0, decisions_settle (z ∷ es) d.1)
+-- decisions, and then what settles
+pub decisions_then : (es rest : List PlainEntry) → AreDecisions es → IsSettling rest → IsSettling (es ++ rest)
+decisions_then [] rest d s = s
+decisions_then (x ∷ []) rest d s = absurd d
+decisions_then (x ∷ y ∷ es) rest d s = (d.0, decisions_then es rest d.1 s)
+
+pub decisions_settle : (es : List PlainEntry) → AreDecisions es → IsSettling (es ++ entry claim settled ∷ [])
+decisions_settle es d = decisions_then es (entry claim settled ∷ []) d refl
 
 pub decide_all : {old middle new : List PlainEntry} → Decides old middle → new ≡ middle ++ entry claim settled ∷ [] → Settles old new
 decide_all {old} {middle} {new} d e = record {
@@ -55,6 +58,20 @@ pub decides_by : (old middle new : Kept) (o : Option (Arc Problem Global)) (a : 
     → Enters middle new (post middle.state.claims v) (posted ways.Kept) → ((l : Limits) → IsWithin l v) → DecidesOne old.history new.history
 decides_by old middle new None a v e w n k l = cc
 decides_by old middle new (Some b) a v e w n k l = decides_one (old.state.claims + 1) 1 b.value v middle.state.claims w.history k.history n l
+
+-- no claim was made
+pub claims_none : (old new : Kept) → new ≡ old → ClaimsOnceAtMost old.history new.history
+claims_none old new e = record { entries = []; at_most = tt; whole = ap (λ (k : Kept). k.history) e ∙ sym (append-nil old.history) }
+
+-- a claim handed out a problem
+pub claims_one : (old middle new : Kept) (o : Option (Arc Problem Global)) (a : Arc Problem Global) → o ≡ Some a → IfSome o (λ p. Enters old middle claim (work (old.state.claims + 1) 1 p.value)) → new ≡ middle
+    → ClaimsOnceAtMost old.history new.history
+claims_one old middle new None a e w k = cc
+claims_one old middle new (Some b) a e w k = record {
+  entries = entry claim (work (old.state.claims + 1) 1 b.value) ∷ [];
+  at_most = (old.state.claims + 1, 1, b.value, refl);
+  whole = ap (λ (x : Kept). x.history) k ∙ w.history;
+}
 
 pub when_true : (h h' : List PlainEntry) (b : Bool) → b ≡ true → MatchBool b (DecidesOne h h') (h' ≡ h ++ entry claim settled ∷ []) → DecidesOne h h'
 when_true h h' true e m = m

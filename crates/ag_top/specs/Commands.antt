@@ -15,7 +15,8 @@ use Rattle.ag_report.specs.Texts as texts
 use Rattle.ag_top.specs.declared.history.Published.{Published}
 use Rattle.ag_top.specs.declared.history.Posted.{Posted}
 use Rattle.ag_top.specs.declared.history.Tally.{Tally}
-use Rattle.ag_top.specs.Entries.{PlainEntry, publish, claim, post, report, close, published, work, settled, posted, reported, closed}
+use Rattle.ag_top.specs.declared.history.GivenBack.{GivenBack}
+use Rattle.ag_top.specs.Entries.{PlainEntry, publish, claim, post, give_back, report, close, published, work, settled, posted, given_back, reported, closed}
 use Rattle.ag_top.specs.Store.{entry}
 
 pub data Command : Type 0 where
@@ -39,11 +40,16 @@ pub data Said : Type 0 where
 abbrev pub sought : ℕ
 sought = 1
 
+-- what is written of a close
+abbrev pub closed_text : Tally → List ℕ
+closed_text t = texts.closed t.revision t.proved t.refuted t.consistent t.inconsistent t.unknown
+
+-- what is written of a command
 abbrev pub text_of : Package → Said → List ℕ
 text_of p (Accepted r) = texts.published r.revision r.count r.carried (length r.cancelled)
 text_of p (AllSettled n) = texts.settled n
 text_of p (Told n lines) = texts.report_of p n sought lines
-text_of p (Shut t) = texts.closed t.revision t.proved t.refuted t.consistent t.inconsistent t.unknown
+text_of p (Shut t) = closed_text t
 
 -- the keys of a package's obligations and their problems
 abbrev pub listed_of : Package → List (Key × ProblemDraft)
@@ -86,6 +92,24 @@ Answers list n Publish es said = (r : Published) × (es ≡ entry (publish list)
 Answers list n Settle es said = IsSettling es × (said ≡ AllSettled n)
 Answers list n Report es said = (r : ℕ) × (lines : List (Key × Option Verdict)) × (es ≡ entry report (reported r lines) ∷ []) × (said ≡ Told r lines) × All (IsToldOf list) lines
 Answers list n Close es said = (t : Tally) × IsClosing es t × (said ≡ Shut t)
+
+-- at most one entry, of a claim that is given back
+abbrev pub IsGivenBackOrNone : List PlainEntry → Type 0
+IsGivenBackOrNone [] = Unit {0}
+IsGivenBackOrNone (e ∷ []) = (number : ℕ) × (how : GivenBack) × (e ≡ entry (give_back number) (given_back how))
+IsGivenBackOrNone (a ∷ b ∷ es) = ⊥
+
+-- The first entries of some that would answer the command, all of them or fewer, and then at most a claim that is given
+-- back. So decisions keep to the limits, what is published is the package's own list, what is told is true, and none is a stop.
+pub record IsBegun (list : List (Key × ProblemDraft)) (c : Command) (es : List PlainEntry) : Type 0 where
+  pub revision : ℕ
+  pub front : List PlainEntry
+  pub rest : List PlainEntry
+  pub said : Said
+  pub answers : Answers list revision c (front ++ rest) said
+  pub back : List PlainEntry
+  pub at_most : IsGivenBackOrNone back
+  pub whole : es ≡ front ++ back
 
 -- the number of the last revision after a command
 abbrev pub revision_after : ℕ → Command → ℕ

@@ -5,6 +5,7 @@ pub mod Store
 pub mod Trying
 pub mod Commands
 pub mod Stages
+pub mod Sessions
 pub mod Words
 pub mod Refusals
 pub mod Printing

@@ -7,14 +7,14 @@ use Rattle.ag_small.specs.declared.package.Package.{Package}
 use Rattle.ag_small.specs.Reads.{Reads}
 use Rattle.ag_small.specs.Named.{IsTrueOfNamed}
 use Rattle.ag_small.specs.Places.{IsPlaceIn}
-use Rattle.ag_report.specs.Texts.{refused}
+use Rattle.ag_top.specs.Refusals.{not_built}
 use Rattle.ag_top.specs.Entries.{PlainEntry}
 use Rattle.ag_top.specs.Machine.{start, state_after, IsLegal, undecided, tally}
 use Rattle.ag_top.specs.Store.{listed}
 use Rattle.ag_top.specs.Stages.{Partly}
 use Rattle.ag_top.specs.Printing.{IsPrintBroken}
 use Rattle.ag_top.specs.Words.{IsCheck, IsCommand, IsTextOf, usage_text, too_long_text}
-use Rattle.ag_top.specs.Commands.{Command, check, Said, Accepted, AllSettled, Told, Shut, text_of, listed_of, sought, Serves, IsToldOf, Grows, status_by}
+use Rattle.ag_top.specs.Commands.{Command, check, Said, Accepted, AllSettled, Told, Shut, text_of, listed_of, sought, Serves, IsBegun, IsToldOf, Grows, status_by}
 
 -- the replies, one after another
 abbrev pub text_all : Package → List Said → List ℕ
@@ -37,17 +37,20 @@ pub record IsChecked (p : Package) (history : List PlainEntry) (said : List Said
   pub decided : undecided (state_after start history) ≡ 0
   pub by_verdicts : status ≡ status_by (tally (state_after start history))
 
--- a check that was cut short: the first commands were served, and what is told of them is true; of the entries behind theirs it is said only that the history is legal
+-- A check that was cut short: the first commands were served, and what is told of them is true; the entries behind theirs are
+-- those with which the next command was begun.
 pub record IsCutShort (p : Package) (history : List PlainEntry) (said : List Said) : Type 0 where
   pub legal : IsLegal history
   pub done : List Command
-  pub ahead : List Command
-  pub all : check ≡ done ++ ahead
+  pub next : Command
+  pub later : List Command
+  pub all : check ≡ done ++ next ∷ later
   pub served : List PlainEntry
   pub begun : List PlainEntry
   pub whole : history ≡ served ++ begun
   pub commands : Serves (listed_of p) 0 done served said
   pub truly : All (IsTruly p) said
+  pub opening : IsBegun (listed_of p) next begun
 
 -- the check of a package was answered, and what is said of it was written
 pub record IsCheckAnswer (p : Package) (history : List PlainEntry) (status : Status) (before now : Option (List ℕ)) : Type 0 where
@@ -92,7 +95,7 @@ pub record IsRefusal (words : List (List ℕ)) (left : Option (List ℕ)) (histo
   pub text : List ℕ
   pub read : IsTextOf left text
   pub cause : ((4194304 < length text) × Grows before now too_long_text)
-      ⊎ ((length text ≤ 4194304) × ((p : Package) → Reads text p → ⊥) × ((place : Place) × IsPlaceIn text place × Grows before now (refused place)))
+      ⊎ ((length text ≤ 4194304) × ((p : Package) → Reads text p → ⊥) × ((place : Place) × IsPlaceIn text place × Grows before now (not_built place)))
   pub empty : history ≡ []
 
 -- what was read is a package, whose check was answered
@@ -132,14 +135,14 @@ pub record IsTextRefused (text : List ℕ) (history : List PlainEntry) (before n
   pub none : (p : Package) → Reads text p → ⊥
   pub place : Place
   pub inside : IsPlaceIn text place
-  pub written : Grows before now (refused place)
+  pub written : Grows before now (not_built place)
   pub empty : history ≡ []
 
 -- of what a text gives only the first bytes were written: of its check, or of its refusal
 abbrev pub IsTextBroken : List ℕ → List PlainEntry → Option (List ℕ) → Option (List ℕ) → Type 0
 IsTextBroken text history before now =
     ((p : Package) × Reads text p × IsCheckBroken p history before now)
-    ⊎ (((p : Package) → Reads text p → ⊥) × ((place : Place) × IsPlaceIn text place × Partly (refused place) before now) × (history ≡ []))
+    ⊎ (((p : Package) → Reads text p → ⊥) × ((place : Place) × IsPlaceIn text place × Partly (not_built place) before now) × (history ≡ []))
 
 -- of what a check of the source gives only the first bytes were written
 pub record IsReadBroken (words : List (List ℕ)) (left : Option (List ℕ)) (history : List PlainEntry) (before now : Option (List ℕ)) : Type 0 where

@@ -1,5 +1,6 @@
 -- What is printed of a refusal of the source.
 use Rattle.std.specs.Prelude.{ℕ, ◌++◌, List, [], codes, decimal}
+use Rattle.ag_base.specs.declared.place.Place.{Place}
 use Rattle.ag_base.specs.declared.place.Refusal.{Refusal}
 use Rattle.ag_base.specs.declared.place.Rule.{Rule}
 use Rattle.ag_base.specs.declared.place.Rule.TheVariants.{NotUtf8, BadByte, OpenString, OpenAnnex, LongName, WideNumber, TooDeep, Unsupported, Expected, EndName, Twice, Misplaced, NoPackage, NotImported, NoClassifier, NoPort, Direction, PortType, TwoSources, Recursive, Unknown, Mismatch, Arity, NodeRecursion, NotLinear, BadDivisor, Coefficient, TooManyStreams, TooManyParts, Cycle, TooManyObligations, NotBuilt}
@@ -50,3 +51,7 @@ abbrev pub refusal_text : Refusal → List ℕ
 refusal_text r =
     codes "refused -:" ++ decimal r.place.line ++ codes ":" ++ decimal r.place.column ++ codes " " ++ rule_name r.rule
     ++ word_behind r.rule ++ codes "\n"
+
+-- the refusal of a text that is no package of the check's grammar, at that place
+abbrev pub not_built : Place → List ℕ
+not_built place = refusal_text record { place = place; rule = NotBuilt }

@@ -1,21 +1,19 @@
 -- What it is to serve commands, from one store and one text to the next.
-use Rattle.std.specs.Prelude.{◌≡◌, ◌<◌, ◌⊎◌, ◌++◌, ◌∷◌, [], ℕ, List, Option, Result, Ok, Err, length, take}
+use Rattle.std.specs.Prelude.{◌≡◌, ◌<◌, ◌≤◌, ◌⊎◌, ◌++◌, ◌∷◌, [], ℕ, List, Option, Result, Ok, Err, length, take}
 use Rattle.ag_base.specs.declared.status.Status.{Status}
 use Rattle.ag_base.specs.declared.status.Status.TheVariants as statuses
 use Rattle.ag_top.specs.declared.history.Tally.{Tally}
-use Rattle.ag_top.specs.declared.check.Stop.{Stop}
-use Rattle.ag_top.specs.declared.check.Stop.TheVariants as stops
+use Rattle.ag_top.specs.declared.cut.Cut.{Cut}
+use Rattle.ag_top.specs.declared.cut.Cut.TheVariants as cuts
+use Rattle.ag_base.specs.Outside.{Rose}
+use Rattle.ag_stream.specs.declared.problem.ProblemDraft.{ProblemDraft}
 use Rattle.ag_small.specs.declared.package.Package.{Package}
-use Rattle.ag_top.specs.Entries.{PlainEntry}
-use Rattle.ag_top.specs.Store.{Kept}
-use Rattle.ag_top.specs.Commands.{Command, Said, Answers, Grows, IsDecision, IsSettling, listed_of, text_of, revision_after, status_by}
+use Rattle.ag_top.specs.Entries.{PlainEntry, claim, work}
+use Rattle.ag_top.specs.Machine.{start}
+use Rattle.ag_top.specs.Store.{Kept, entry}
+use Rattle.ag_top.specs.Commands.{Command, Said, Answers, IsBegun, Grows, IsDecision, IsSettling, listed_of, text_of, revision_after, status_by}
 
--- the history has grown by some entries
-pub record Extends (old new : List PlainEntry) : Type 0 where
-  pub entries : List PlainEntry
-  pub whole : new ≡ old ++ entries
-
--- it has grown by a decision
+-- the history has grown by a decision
 pub record DecidesOne (old new : List PlainEntry) : Type 0 where
   pub claimed : PlainEntry
   pub put : PlainEntry
@@ -39,6 +37,24 @@ pub record Settles (old new : List PlainEntry) : Type 0 where
   pub settling : IsSettling entries
   pub whole : new ≡ old ++ entries
 
+-- at most one entry, of a claim that handed out a problem
+abbrev pub IsClaimedOrNone : List PlainEntry → Type 0
+IsClaimedOrNone [] = Unit {0}
+IsClaimedOrNone (e ∷ []) = (number : ℕ) × (revision : ℕ) × (problem : ProblemDraft) × (e ≡ entry claim (work number revision problem))
+IsClaimedOrNone (a ∷ b ∷ es) = ⊥
+
+-- the history has grown by at most such a claim
+pub record ClaimsOnceAtMost (old new : List PlainEntry) : Type 0 where
+  pub entries : List PlainEntry
+  pub at_most : IsClaimedOrNone entries
+  pub whole : new ≡ old ++ entries
+
+-- it has grown by decisions, and then by at most such a claim
+pub record SettlesPartly (old new : List PlainEntry) : Type 0 where
+  pub middle : List PlainEntry
+  pub decides : Decides old middle
+  pub claims : ClaimsOnceAtMost middle new
+
 -- a command was answered, and what is said of it was written
 pub record Stage (p : Package) (n : ℕ) (c : Command) (old new : Kept) (before now : Option (List ℕ)) : Type 0 where
   pub entries : List PlainEntry
@@ -47,29 +63,24 @@ pub record Stage (p : Package) (n : ℕ) (c : Command) (old new : Kept) (before 
   pub answers : Answers (listed_of p) n c entries said
   pub written : Grows before now (text_of p said)
 
--- the commands were answered in order
-abbrev pub RunsAll : Package → ℕ → List Command → Kept → Kept → Option (List ℕ) → Option (List ℕ) → Type 0
-RunsAll p n [] old new before now = (new ≡ old) × (now ≡ before)
-RunsAll p n (c ∷ cs) old new before now =
-    (middle : Kept) × (between : Option (List ℕ)) × Stage p n c old middle before between × RunsAll p (revision_after n c) cs middle new between now
-
--- entries of a command came, and nothing was written
-pub record Begins (old new : Kept) (before now : Option (List ℕ)) : Type 0 where
-  pub history : Extends old.history new.history
+-- a command was begun, and nothing was written
+pub record Begins (p : Package) (n : ℕ) (c : Command) (old new : Kept) (before now : Option (List ℕ)) : Type 0 where
+  pub entries : List PlainEntry
+  pub begun : IsBegun (listed_of p) c entries
+  pub history : new.history ≡ old.history ++ entries
   pub same : now ≡ before
-
--- the first of the commands were answered in order, and the next one was begun
-abbrev pub StopsIn : Package → ℕ → List Command → Kept → Kept → Option (List ℕ) → Option (List ℕ) → Type 0
-StopsIn p n [] old new before now = ⊥
-StopsIn p n (c ∷ cs) old new before now =
-    Begins old new before now
-    ⊎ ((middle : Kept) × (between : Option (List ℕ)) × Stage p n c old middle before between × StopsIn p (revision_after n c) cs middle new between now)
 
 -- the first bytes of a text were written, but not all
 pub record Partly (text : List ℕ) (before now : Option (List ℕ)) : Type 0 where
   pub taken : ℕ
   pub short : taken < length text
   pub written : Grows before now (take taken text)
+
+-- a text was handed over, or its first bytes
+abbrev pub Writes : {A : Type 0} → List ℕ → Result A Cut → Option (List ℕ) → Option (List ℕ) → Type 0
+Writes text (Ok a) before now = Grows before now text
+Writes text (Err cuts.Write) before now = Partly text before now
+Writes text (Err cuts.Memory) before now = ⊥
 
 -- a command was answered, and the first bytes of what is said of it were written
 pub record Broken (p : Package) (n : ℕ) (c : Command) (old new : Kept) (before now : Option (List ℕ)) : Type 0 where
@@ -79,24 +90,49 @@ pub record Broken (p : Package) (n : ℕ) (c : Command) (old new : Kept) (before
   pub answers : Answers (listed_of p) n c entries said
   pub partly : Partly (text_of p said) before now
 
--- the first of the commands were answered in order, and what is said of the last of them was written in part
-abbrev pub FailsIn : Package → ℕ → List Command → Kept → Kept → Option (List ℕ) → Option (List ℕ) → Type 0
-FailsIn p n [] old new before now = ⊥
-FailsIn p n (c ∷ cs) old new before now =
-    Broken p n c old new before now
-    ⊎ ((middle : Kept) × (between : Option (List ℕ)) × Stage p n c old middle before between × FailsIn p (revision_after n c) cs middle new between now)
+-- a command was cut short: for want of memory when it was begun, by the sink when it was answered
+abbrev pub IsCut : Cut → Package → ℕ → Command → Kept → Kept → Option (List ℕ) → Option (List ℕ) → Type 0
+IsCut cuts.Memory p n c old new before now = Begins p n c old new before now
+IsCut cuts.Write p n c old new before now = Broken p n c old new before now
 
--- a text was written, and then the rest came
-pub record SaysThen (text : List ℕ) (Then : Option (List ℕ) → Option (List ℕ) → Type 0) (before now : Option (List ℕ)) : Type 0 where
-  pub between : Option (List ℕ)
-  pub written : Grows before between text
-  pub rest : Then between now
+-- how a command ended
+abbrev pub Served : {A : Type 0} → Package → ℕ → Command → Result A Cut → Kept → Kept → Option (List ℕ) → Option (List ℕ) → Type 0
+Served p n c (Ok a) old new before now = Stage p n c old new before now
+Served p n c (Err cut) old new before now = IsCut cut p n c old new before now
+
+-- the commands were answered in order
+abbrev pub RunsAll : Package → ℕ → List Command → Kept → Kept → Option (List ℕ) → Option (List ℕ) → Type 0
+RunsAll p n [] old new before now = (new ≡ old) × (now ≡ before)
+RunsAll p n (c ∷ cs) old new before now =
+    (middle : Kept) × (between : Option (List ℕ)) × Stage p n c old middle before between × RunsAll p (revision_after n c) cs middle new between now
+
+-- the first of the commands were answered in order, and the next one was cut short
+abbrev pub CutIn : Cut → Package → ℕ → List Command → Kept → Kept → Option (List ℕ) → Option (List ℕ) → Type 0
+CutIn cut p n [] old new before now = ⊥
+CutIn cut p n (c ∷ cs) old new before now =
+    IsCut cut p n c old new before now
+    ⊎ ((middle : Kept) × (between : Option (List ℕ)) × Stage p n c old middle before between × CutIn cut p (revision_after n c) cs middle new between now)
+
+-- how the commands ended
+abbrev pub ServedAll : {A : Type 0} → Package → ℕ → List Command → Result A Cut → Kept → Kept → Option (List ℕ) → Option (List ℕ) → Type 0
+ServedAll p n cs (Ok a) old new before now = RunsAll p n cs old new before now
+ServedAll p n cs (Err cut) old new before now = CutIn cut p n cs old new before now
+
+-- the store before its first call
+abbrev pub fresh : Kept
+fresh = record { state = start; history = [] }
+
+-- the sink's count of faults: it rose where the sink ended the call, and is as it was elsewhere
+abbrev pub CountsFault : {A : Type 0} → Result A Cut → ℕ → ℕ → Type 0
+CountsFault (Err cuts.Write) before now = (before ≤ now) × Rose before now
+CountsFault (Err cuts.Memory) before now = now ≡ before
+CountsFault (Ok a) before now = now ≡ before
 
 -- the status of an end: by its verdicts, or by what cut it short
-abbrev pub status_at : Result Tally Stop → Status
+abbrev pub status_at : Result Tally Cut → Status
 status_at (Ok t) = status_by t
-status_at (Err stops.Write) = statuses.WriteFault
-status_at (Err stops.Memory) = statuses.OutOfMemory
+status_at (Err cuts.Write) = statuses.WriteFault
+status_at (Err cuts.Memory) = statuses.OutOfMemory
 
 -- an end by the verdicts
 abbrev pub EndsByVerdicts : Status → Type 0

@@ -9,7 +9,9 @@ ghost use Rattle.ag_top.specs.Machine.{start, tally, undecided};
 ghost use Rattle.ag_top.specs.Commands.{IsToldOf};
 ghost use Rattle.ag_top.specs.Store.{IsKept, Enters, AreDifferent, listed, told_of, lines_of, tally_from, with_one, IsIdle, IsOut, accepted};
 
-use crate::history::{Call, Entry, History, MOST_ENTRIES, Posted, Published, Reply, Report, Tally};
+use crate::history::{
+    Call, Entry, History, MOST_ENTRIES, Posted, Published, Reply, Report, Tally, share_list,
+};
 use ag_base::{List, OutOfMemory};
 use ag_stream::Problem;
 use ag_verdict::{Key, Verdict};
@@ -52,20 +54,6 @@ fn make_room(history: &mut Vec<Entry>) -> Result<(), OutOfMemory>
     }
     history.reserve(1)?;
     Ok(())
-}
-
-/// The same list once more. Its problems aren't copied.
-fn share_list(
-    alloc: Global,
-    list: &List<(Key, Arc<Problem>)>,
-) -> Result<List<(Key, Arc<Problem>)>, OutOfMemory>
-    ensures { IfOk result (λ copy. plain_list copy ≡ plain_list list.now) }
-{
-    let mut copy = List::new(alloc);
-    for (key, problem) in list.as_slice() {
-        copy.push((key.share()?, Arc::try_clone(problem)?))?;
-    }
-    Ok(copy)
 }
 
 /// The answer to a first list of so many keys.
@@ -232,8 +220,8 @@ impl Board {
     pub fn into_history(self) -> History
         ensures { result ≡ self.history }
     {
-        let Board { history, .. } = self;
-        History::from_entries(history)
+        let Board { alloc, history, .. } = self;
+        History::from_entries(alloc, history)
     }
 }
 

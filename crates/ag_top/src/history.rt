@@ -1,6 +1,9 @@
 //! Calls of the verdict store, their replies, and the history that they make.
+ghost use Rattle.std.specs.Prelude.{◌≡◌, IfOk};
+ghost use Rattle.std.specs.Option.{option_map};
+ghost use Rattle.ag_top.specs.Entries.{plain_call, plain_reply, plain_list, plain_lines};
 
-use ag_base::List;
+use ag_base::{List, OutOfMemory};
 use ag_stream::Problem;
 use ag_verdict::{Key, Verdict};
 use std::alloc::Global;
@@ -17,6 +20,40 @@ pub enum Call {
     Report,
     Close,
     Stop,
+}
+
+impl Call {
+    /// The same call once more. The texts, problems and verdicts in it aren't copied.
+    pub(crate) fn share(&self, alloc: Global) -> Result<Call, OutOfMemory>
+        ensures { IfOk result (λ call. plain_call call ≡ plain_call self.now) }
+    {
+        match self {
+            Call::Publish(list) => Ok(Call::Publish(share_list(alloc, list)?)),
+            Call::Claim => Ok(Call::Claim),
+            Call::Post { claim, verdict } => Ok(Call::Post {
+                claim: *claim,
+                verdict: Arc::try_clone(verdict)?,
+            }),
+            Call::GiveBack { claim } => Ok(Call::GiveBack { claim: *claim }),
+            Call::Report => Ok(Call::Report),
+            Call::Close => Ok(Call::Close),
+            Call::Stop => Ok(Call::Stop),
+        }
+    }
+}
+
+/// The same list once more. Its problems aren't copied.
+pub(crate) fn share_list(
+    alloc: Global,
+    list: &List<(Key, Arc<Problem>)>,
+) -> Result<List<(Key, Arc<Problem>)>, OutOfMemory>
+    ensures { IfOk result (λ copy. plain_list copy ≡ plain_list list.now) }
+{
+    let mut copy = List::new(alloc);
+    for (key, problem) in list.as_slice() {
+        copy.push((key.share()?, Arc::try_clone(problem)?))?;
+    }
+    Ok(copy)
 }
 
 /// What the store answered.
@@ -61,6 +98,24 @@ pub struct Published {
     pub cancelled: List<Cancelled>,
 }
 
+impl Published {
+    /// The same answer once more.
+    pub(crate) fn share(&self, alloc: Global) -> Result<Published, OutOfMemory>
+        ensures { IfOk result (λ p. p ≡ self.now) }
+    {
+        let mut cancelled = List::new(alloc);
+        for claim in self.cancelled.as_slice() {
+            cancelled.push(*claim)?;
+        }
+        Ok(Published {
+            revision: self.revision,
+            count: self.count,
+            carried: self.carried,
+            cancelled,
+        })
+    }
+}
+
 /// Whether a verdict was the first of its problem.
 #[derive(Clone, Copy, Debug, PartialEq, Eq)]
 pub enum Posted {
@@ -93,6 +148,62 @@ pub struct Report {
     pub lines: List<(Key, Option<Arc<Verdict>>)>,
 }
 
+impl Report {
+    /// The same report once more. The texts and verdicts in it aren't copied.
+    pub(crate) fn share(&self, alloc: Global) -> Result<Report, OutOfMemory>
+        ensures revision { IfOk result (λ r. r.revision ≡ self.now.revision) }
+        ensures lines { IfOk result (λ r. plain_lines r.lines ≡ plain_lines self.now.lines) }
+    {
+        let mut lines = List::new(alloc);
+        for (key, verdict) in self.lines.as_slice() {
+            lines.push((key.share()?, share_verdict(verdict)?))?;
+        }
+        Ok(Report {
+            revision: self.revision,
+            lines,
+        })
+    }
+}
+
+/// A verdict or none once more. It isn't copied.
+fn share_verdict(verdict: &Option<Arc<Verdict>>) -> Result<Option<Arc<Verdict>>, OutOfMemory>
+    ensures { IfOk result (λ v. option_map (λ a. a.value) v ≡ option_map (λ a. a.value) verdict.now) }
+{
+    match verdict {
+        None => Ok(None),
+        Some(verdict) => Ok(Some(Arc::try_clone(verdict)?)),
+    }
+}
+
+impl Reply {
+    /// The same reply once more. The texts, problems and verdicts in it aren't copied.
+    pub(crate) fn share(&self, alloc: Global) -> Result<Reply, OutOfMemory>
+        ensures { IfOk result (λ reply. plain_reply reply ≡ plain_reply self.now) }
+    {
+        match self {
+            Reply::Published(published) => Ok(Reply::Published(published.share(alloc)?)),
+            Reply::Work {
+                claim,
+                revision,
+                problem,
+            } => Ok(Reply::Work {
+                claim: *claim,
+                revision: *revision,
+                problem: Arc::try_clone(problem)?,
+            }),
+            Reply::Busy(undecided) => Ok(Reply::Busy(*undecided)),
+            Reply::Settled => Ok(Reply::Settled),
+            Reply::Over => Ok(Reply::Over),
+            Reply::Posted(posted) => Ok(Reply::Posted(*posted)),
+            Reply::GivenBack(given_back) => Ok(Reply::GivenBack(*given_back)),
+            Reply::Report(report) => Ok(Reply::Report(report.share(alloc)?)),
+            Reply::Closed(tally) => Ok(Reply::Closed(*tally)),
+            Reply::StillOpen(undecided) => Ok(Reply::StillOpen(*undecided)),
+            Reply::Stopped => Ok(Reply::Stopped),
+        }
+    }
+}
+
 /// A call from a seat, and its reply.
 #[derive(Drop)]
 pub struct Entry {
@@ -107,6 +218,7 @@ pub const MOST_ENTRIES: usize = 4_294_967_295;
 /// Entries in order, which a contract sees as plain values.
 #[derive(Drop)]
 pub struct History {
+    alloc: Global,
     entries: Vec<Entry>,
 }
 
@@ -122,7 +234,7 @@ impl Model for History {
 }
 
 impl History {
-    ghost use Rattle.std.specs.Prelude.{◌≡◌, ◌≤◌, [], length, map, vec_len};
+    ghost use Rattle.std.specs.Prelude.{◌≡◌, ◌<◌, ◌≤◌, [], Some, IfOk, length, map, slice_get, vec_len};
     ghost use Rattle.ag_top.specs.Entries.{plain_entry};
 
     /// A history without entries, which takes no memory.
@@ -130,16 +242,30 @@ impl History {
         ensures { result ≡ [] }
     {
         History {
+            alloc,
             entries: Vec::new(alloc),
         }
     }
 
     /// The history of these entries.
-    pub(crate) fn from_entries(entries: Vec<Entry>) -> History
+    pub(crate) fn from_entries(alloc: Global, entries: Vec<Entry>) -> History
         requires { vec_len entries ≤ 4294967295 }
         ensures { result ≡ map plain_entry entries.items }
     {
-        History { entries }
+        History { alloc, entries }
+    }
+
+    /// The entry at a position, counted from 0. Its texts, problems and verdicts aren't copied.
+    pub fn entry(&self, n: u32) -> Result<Entry, OutOfMemory>
+        requires { n < length self.now }
+        ensures { IfOk result (λ e. slice_get self.now n ≡ Some (plain_entry e)) }
+    {
+        let entry = &self.entries[n as usize];
+        Ok(Entry {
+            seat: entry.seat,
+            call: entry.call.share(self.alloc)?,
+            reply: entry.reply.share(self.alloc)?,
+        })
     }
 
     /// How many entries there are.

@@ -1,6 +1,8 @@
-//! That the print of a text has one answer.
-ghost use Rattle.std.specs.Prelude.{◌≡◌, ℕ, List};
+//! That the print of a text has exactly one answer, and that the store compares problems by their values.
+ghost use Rattle.std.specs.Prelude.{◌≡◌, ◌⊎◌, ◌↔◌, ℕ, List, IsTrue};
 ghost use Rattle.ag_base.specs.declared.place.Refusal.{Refusal};
+ghost use Rattle.ag_stream.specs.declared.problem.ProblemDraft.{ProblemDraft};
+ghost use Rattle.ag_top.specs.Machine.{same_problem};
 ghost use Rattle.ag_top.specs.Printing.{IsPrinted, IsPrintRefused};
 
 /// A text has one canonical text at most and gets one refusal at most, and never both.
@@ -15,3 +17,20 @@ pub fn one_print()
     ag_aadl::one_refusal();
     ag_print::one_answer();
 }
+
+/// Each text has a canonical text or gets a refusal. With `one_print` it is exactly one of the two.
+pub fn one_of_the_two()
+    ensures { (text : List ℕ) → ((printed : List ℕ) × IsPrinted text printed) ⊎ ((r : Refusal) × IsPrintRefused text r) }
+{
+    ag_lex::one_of_the_two();
+    ag_aadl::one_of_the_two();
+    ag_annex::one_of_the_two();
+    ag_print::files_are_printable();
+    ag_print::canonical_rereads();
+    ag_print::annexes_reread();
+}
+
+/// The store takes two problems for the same exactly where they are equal.
+pub fn problems_are_compared()
+    ensures { (p q : ProblemDraft) → IsTrue (same_problem p q) ↔ (p ≡ q) }
+{}

@@ -7,6 +7,7 @@
 
 mod board;
 mod check;
+mod cut;
 pub mod history;
 mod laws;
 mod print;
@@ -14,11 +15,12 @@ mod prover;
 mod read;
 mod refusal;
 mod say;
+mod session;
 mod settle;
 mod tell;
 mod top;
 mod words;
 
 pub use check::Done;
-pub use laws::one_print;
+pub use laws::{one_of_the_two, one_print, problems_are_compared};
 pub use top::agree;

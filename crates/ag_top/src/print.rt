@@ -1,6 +1,6 @@
 //! The print of one text: the canonical text of its packages and of what their annexes state, or the
 //! refusal that it gets.
-ghost use Rattle.std.specs.Prelude.{◌≡◌, ◌≤◌, [], length, IfOk, Err};
+ghost use Rattle.std.specs.Prelude.{◌≡◌, ◌≢◌, ◌≤◌, [], length, IfOk, Err};
 ghost use Rattle.ag_base.specs.Outside.{Rose};
 ghost use Rattle.ag_base.specs.declared.place.Refusal.{Refusal};
 ghost use Rattle.ag_base.specs.declared.place.Refused.TheVariants.{Model};
@@ -38,6 +38,8 @@ pub fn print_text<K: Sink>(alloc: Global, text: &[u8], sink: &mut K) -> Done
     ensures memory { result.status ≡ statuses.OutOfMemory → IsNothing result.history (K.written sink.old) (K.written sink.new) }
     ensures broken { result.status ≡ statuses.WriteFault → IsTextPartlyPrinted text.now (K.written sink.old) (K.written sink.new) }
     ensures write { result.status ≡ statuses.WriteFault → Rose (K.faults sink.old) (K.faults sink.new) }
+    ensures unfaulted { result.status ≢ statuses.WriteFault → K.faults sink.new ≡ K.faults sink.old }
+    ensures never_falls { K.faults sink.old ≤ K.faults sink.new }
     ensures history { result.history ≡ [] }
     ensures only { IsEndOfPrint result.status }
 {

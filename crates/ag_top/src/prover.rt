@@ -11,7 +11,7 @@ ghost use Rattle.ag_verdict.specs.Within.{IsWithin};
 ghost use Rattle.ag_top.specs.Trying.{IsSought, AgreesOutside, claim_verdict_of};
 
 use ag_base::{List, OutOfMemory};
-use ag_stream::{Equation, Instant, Problem, Run, breaks, eval, keeps_premises};
+use ag_stream::{Equation, EvalFault, Instant, Problem, Run, breaks, eval, keeps_premises};
 use ag_verdict::Verdict;
 use ag_verdict::plain::instants_decide;
 use std::alloc::Global;
@@ -78,7 +78,8 @@ fn try_one(alloc: Global, problem: &Problem, flags: &[bool]) -> Result<Option<Ru
 {
     let given = instant_of(alloc, flags)?;
     match eval(alloc, problem, &given) {
-        Err(_) => Err(OutOfMemory),
+        Err(EvalFault::Wide { .. }) => unreachable!(),
+        Err(EvalFault::OutOfMemory) => Err(OutOfMemory),
         Ok(run) => {
             if is_sought(problem, &run) {
                 Ok(Some(run))

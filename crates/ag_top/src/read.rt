@@ -46,6 +46,8 @@ pub fn read_text<S: Source>(alloc: Global, source: &mut S) -> Result<Bytes, Text
     ensures few { IfOk result (λ text. length text ≤ 4194304) }
     ensures too_long { IsErrOf result faults.TooLong → IsTooLong (S.left source.old) }
     ensures failed { IsErrOf result faults.Failed → Rose (S.faults source.old) (S.faults source.new) }
+    ensures unfaulted { (IsErrOf result faults.Failed → ⊥) → S.faults source.new ≡ S.faults source.old }
+    ensures never_falls { S.faults source.old ≤ S.faults source.new }
 {
     let mut bytes = Vec::new(alloc);
     let mut piece = [0u8; 4096];

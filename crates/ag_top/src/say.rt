@@ -11,6 +11,7 @@ pub fn say<K: Sink>(sink: &mut K, text: &[u8]) -> Result<(), Failed>
     ensures taken { OnOk result (Grows (K.written sink.old) (K.written sink.new) text.now) }
     ensures partly { OnErr result (Partly text.now (K.written sink.old) (K.written sink.new)) }
     ensures failed { OnErr result (Rose (K.faults sink.old) (K.faults sink.new)) }
+    ensures unfaulted { OnOk result (K.faults sink.new ≡ K.faults sink.old) }
     ensures never_falls { K.faults sink.old ≤ K.faults sink.new }
 {
     let mut at = 0;

@@ -4,7 +4,7 @@ ghost use Rattle.ag_stream.specs.Forms.{IsPlain};
 ghost use Rattle.ag_top.specs.Entries.{claim, settled};
 ghost use Rattle.ag_top.specs.Machine.{undecided};
 ghost use Rattle.ag_top.specs.Store.{entry, listed, IsIdle};
-ghost use Rattle.ag_top.specs.Stages.{Extends, DecidesOne, Settles};
+ghost use Rattle.ag_top.specs.Stages.{DecidesOne, ClaimsOnceAtMost, Settles, SettlesPartly};
 
 use crate::board::Board;
 use crate::prover::try_all;
@@ -19,7 +19,7 @@ fn decide_next(alloc: Global, board: &mut Board) -> Result<bool, OutOfMemory>
     ensures left { IfOk result (λ more. MatchBool more (undecided board.new.state + 1 ≡ undecided board.old.state) (undecided board.new.state ≡ 0)) }
     ensures idle { OnOk result (IsIdle board.new.state) }
     ensures same { listed board.new.state ≡ listed board.old.state }
-    ensures begun { OnErr result (Extends board.old.history board.new.history) }
+    ensures begun { OnErr result (ClaimsOnceAtMost board.old.history board.new.history) }
 {
     let Some(problem) = board.claim()? else {
         return Ok(false);
@@ -37,7 +37,7 @@ pub fn settle(alloc: Global, board: &mut Board) -> Result<(), OutOfMemory>
     ensures none { OnOk result (undecided board.new.state ≡ 0) }
     ensures idle { OnOk result (IsIdle board.new.state) }
     ensures same { listed board.new.state ≡ listed board.old.state }
-    ensures begun { OnErr result (Extends board.old.history board.new.history) }
+    ensures begun { OnErr result (SettlesPartly board.old.history board.new.history) }
 {
     while decide_next(alloc, board)? {}
     Ok(())

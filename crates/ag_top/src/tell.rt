@@ -1,5 +1,5 @@
 //! An end with one text.
-ghost use Rattle.std.specs.Prelude.{◌≡◌, ◌⊎◌, []};
+ghost use Rattle.std.specs.Prelude.{◌≡◌, ◌≢◌, ◌⊎◌, ◌≤◌, []};
 ghost use Rattle.ag_base.specs.Outside.{Rose};
 ghost use Rattle.ag_base.specs.declared.status.Status.TheVariants as statuses;
 ghost use Rattle.ag_top.specs.Commands.{Grows};
@@ -13,9 +13,11 @@ use std::alloc::Global;
 /// Writes one text, and ends without an entry.
 pub fn tell<K: Sink>(alloc: Global, sink: &mut K, text: &[u8], status: Status) -> Done
     ensures ends { (result.status ≡ status) ⊎ (result.status ≡ statuses.WriteFault) }
-    ensures written { (result.status ≡ statuses.WriteFault → ⊥) → Grows (K.written sink.old) (K.written sink.new) text.now }
+    ensures written { result.status ≢ statuses.WriteFault → Grows (K.written sink.old) (K.written sink.new) text.now }
     ensures partly { (status ≡ statuses.WriteFault → ⊥) → result.status ≡ statuses.WriteFault → Partly text.now (K.written sink.old) (K.written sink.new) }
     ensures write { (status ≡ statuses.WriteFault → ⊥) → result.status ≡ statuses.WriteFault → Rose (K.faults sink.old) (K.faults sink.new) }
+    ensures unfaulted { result.status ≢ statuses.WriteFault → K.faults sink.new ≡ K.faults sink.old }
+    ensures never_falls { K.faults sink.old ≤ K.faults sink.new }
     ensures history { result.history ≡ [] }
 {
     match say(sink, text) {

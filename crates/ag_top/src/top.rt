@@ -4,7 +4,7 @@ ghost use Rattle.ag_base.specs.declared.place.Place.{Place};
 ghost use Rattle.ag_small.specs.declared.package.Package.{Package};
 ghost use Rattle.ag_small.specs.Reads.{Reads};
 ghost use Rattle.ag_small.specs.Places.{IsPlaceIn};
-ghost use Rattle.ag_report.specs.Texts.{refused};
+ghost use Rattle.ag_top.specs.Refusals.{not_built};
 ghost use Rattle.ag_base.specs.Outside.{Rose};
 ghost use Rattle.ag_base.specs.declared.status.Status.TheVariants as statuses;
 ghost use Rattle.ag_top.specs.Stages.{EndsByVerdicts, IsEndOfText};
@@ -15,11 +15,11 @@ ghost use Rattle.ag_top.specs.Words.{IsCommand};
 use crate::check::{Done, check, ended};
 use crate::print::print_text;
 use crate::read::{TextFault, read_text};
+use crate::refusal::refusal_line;
 use crate::say::say;
 use crate::tell::tell;
 use crate::words::{Order, order_of};
-use ag_base::{Bytes, Failed, Folder, OutOfMemory, Sink, Source, Status, Text};
-use ag_report::refused_line;
+use ag_base::{Bytes, Failed, Folder, OutOfMemory, Refusal, Rule, Sink, Source, Status, Text};
 use ag_small::{ReadFault, place_of_refusal, read};
 use std::alloc::Global;
 use std::sync::Wait;
@@ -34,10 +34,11 @@ const TOO_LONG: &str = "refused - TooLong\n";
 /// The line that tells where a text departs from the grammar.
 fn departure(alloc: Global, text: &[u8]) -> Result<Bytes, OutOfMemory>
     requires { length text.now ≤ 4194304 }
-    ensures { IfOk result (λ line. (place : Place) × IsPlaceIn text.now place × (line ≡ refused place)) }
+    ensures { IfOk result (λ line. (place : Place) × IsPlaceIn text.now place × (line ≡ not_built place)) }
 {
     let place = place_of_refusal(alloc, text)?;
-    refused_line(alloc, place)
+    let rule = Rule::NotBuilt;
+    refusal_line(alloc, Refusal { place, rule })
 }
 
 /// Refuses a text that spells no package.
@@ -48,6 +49,8 @@ fn refuse_text<K: Sink>(alloc: Global, text: &[u8], sink: &mut K) -> Done
     ensures memory { result.status ≡ statuses.OutOfMemory → IsNothing result.history (K.written sink.old) (K.written sink.new) }
     ensures broken { result.status ≡ statuses.WriteFault → IsTextBroken text.now result.history (K.written sink.old) (K.written sink.new) }
     ensures write { result.status ≡ statuses.WriteFault → Rose (K.faults sink.old) (K.faults sink.new) }
+    ensures unfaulted { result.status ≢ statuses.WriteFault → K.faults sink.new ≡ K.faults sink.old }
+    ensures never_falls { K.faults sink.old ≤ K.faults sink.new }
     ensures only { IsEndOfText result.status }
     ensures unanswered { EndsByVerdicts result.status → ⊥ }
 {
@@ -68,12 +71,14 @@ fn check_text<K: Sink>(alloc: Global, text: &[u8], sink: &mut K) -> Done
     ensures memory { result.status ≡ statuses.OutOfMemory → IsNothing result.history (K.written sink.old) (K.written sink.new) ⊎ IsTextCut text.now result.history (K.written sink.old) (K.written sink.new) }
     ensures broken { result.status ≡ statuses.WriteFault → IsTextBroken text.now result.history (K.written sink.old) (K.written sink.new) }
     ensures write { result.status ≡ statuses.WriteFault → Rose (K.faults sink.old) (K.faults sink.new) }
+    ensures unfaulted { result.status ≢ statuses.WriteFault → K.faults sink.new ≡ K.faults sink.old }
+    ensures never_falls { K.faults sink.old ≤ K.faults sink.new }
     ensures only { IsEndOfText result.status }
 {
     match read(alloc, text) {
         Err(ReadFault::OutOfMemory) => ended(alloc, Status::OutOfMemory),
         Err(ReadFault::NotBuilt) => refuse_text(alloc, text, sink),
-        Ok(package) => check(alloc, &package, sink),
+        Ok(package) => check(alloc, package, sink),
     }
 }
 
@@ -87,7 +92,7 @@ pub fn agree<R: Threads + Wait + Sync, S: Source, K: Sink, F: Folder>(
     words: &[Text],
     source: &mut S,
     sink: &mut K,
-    _folder: &mut F,
+    folder: &mut F,
 ) -> Done
     // The words are no command.
     ensures usage { result.status ≡ statuses.Usage → IsUsage words.now result.history (K.written sink.old) (K.written sink.new) }
@@ -102,6 +107,20 @@ pub fn agree<R: Threads + Wait + Sync, S: Source, K: Sink, F: Folder>(
     ensures read_fault { result.status ≡ statuses.ReadFault → IsCommand words.now × Rose (S.faults source.old) (S.faults source.new) × IsNothing result.history (K.written sink.old) (K.written sink.new) }
     ensures write_fault { result.status ≡ statuses.WriteFault → Rose (K.faults sink.old) (K.faults sink.new) }
 
+    // Where no fault is told, no count moved; and none ever falls.
+    ensures source_unfaulted { result.status ≢ statuses.ReadFault → S.faults source.new ≡ S.faults source.old }
+    ensures folder_unfaulted { result.status ≢ statuses.ReadFault → F.faults folder.new ≡ F.faults folder.old }
+    ensures sink_unfaulted { result.status ≢ statuses.WriteFault → K.faults sink.new ≡ K.faults sink.old }
+    ensures source_never_falls { S.faults source.old ≤ S.faults source.new }
+    ensures folder_never_falls { F.faults folder.old ≤ F.faults folder.new }
+    ensures sink_never_falls { K.faults sink.old ≤ K.faults sink.new }
+
+    // What the words don't ask for is left as it was: the source where they are no command, and the folder, of which no
+    // command asks for a file yet, so that what is said of its count and its files follows. No file ever changes.
+    ensures source_unread { (IsCommand words.now → ⊥) → source.new ≡ source.old }
+    ensures folder_unread { folder.new ≡ folder.old }
+    ensures files { F.files folder.new ≡ F.files folder.old }
+
     // Of what would have been written the first bytes were.
     ensures broken { result.status ≡ statuses.WriteFault → IsBroken words.now (S.left source.old) result.history (K.written sink.old) (K.written sink.new) }
 
@@ -110,6 +129,7 @@ pub fn agree<R: Threads + Wait + Sync, S: Source, K: Sink, F: Folder>(
 
     ensures no_session { result.status ≢ statuses.SessionRefused }
 {
+    let _ = folder;
     let Some(order) = order_of(words) else {
         return tell(alloc, sink, USAGE.as_bytes(), Status::Usage);
     };

@@ -1,14 +1,16 @@
 //! The program: the command line over standard input and output.
 //!
-//! What is checked, and what is written, is `agree`'s to say. Here are only the real source and
-//! sink, an empty folder, and the status with which the process ends.
+//! What is checked, and what is written, is `agree`'s to say. Here are only the real source, sink and
+//! folder, and the status with which the process ends.
 #![tactic(auto)]
 
-mod outside;
+ghost use Rattle.std.specs.Prelude.{◌≡◌};
+ghost use Rattle.std.specs.Process.{exit_status};
+ghost use Rattle.ag_base.specs.Status.{code_of};
 
-use ag_base::{List, MemFolder, OutOfMemory, Status, Text};
+use ag_base::{OutOfMemory, Status, Text};
+use ag_io::{FileFolder, StdSink, StdSource};
 use ag_top::agree;
-use outside::{StandardInput, StandardOutput};
 use std::alloc::Global;
 use std::env::{self, Env};
 use std::io::ErrorKind;
@@ -30,14 +32,21 @@ fn words<R: Env + Alloc<A = Global>>(rt: &R, alloc: Global) -> Result<Vec<Text>,
     }
 }
 
+/// The status with which the process ends: the number of the run's.
+fn exit_code(status: Status) -> ExitCode
+    ensures { exit_status result ≡ code_of status }
+{
+    ExitCode::from(status.code())
+}
+
 fn main(rt: HostRuntime) -> ExitCode {
     let alloc = rt.alloc();
     let Ok(words) = words(&rt, alloc) else {
-        return ExitCode::from(Status::OutOfMemory.code());
+        return exit_code(Status::OutOfMemory);
     };
-    let mut source = StandardInput::new(rt.reader());
-    let mut sink = StandardOutput::new(&rt);
-    let mut folder = MemFolder::make(alloc, List::new(alloc), List::new(alloc));
+    let mut source = StdSource::new(rt.stdin());
+    let mut sink = StdSink::new(rt.stdout());
+    let mut folder = FileFolder::new(&rt, alloc);
     let done = agree(&rt, alloc, &words, &mut source, &mut sink, &mut folder);
-    ExitCode::from(done.status.code())
+    exit_code(done.status)
 }

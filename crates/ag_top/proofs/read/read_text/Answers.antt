@@ -1,10 +1,11 @@
-use Rattle.std.proofs.Common.{◌++◌, take, refl, arith, length-append}
-use Rattle.ag_top.proofs.Reading.{read_more, read_long, rose_from}
+use Rattle.std.proofs.Common.{◌++◌, take, refl, subst, arith, length-append}
+use Rattle.ag_base.specs.Outside.{Rose}
+use Rattle.ag_top.proofs.Reading.{read_more, read_long}
 use Rattle.std.proofs.lemmas.List.{length-take-le}
 use Rattle.ag_top.proofs.read.read_text.Goals as goal
 
 pub returns-in_err-n-clause-failed : goal.returns-in_err-n-clause-failed
-returns-in_err-n-clause-failed g c = λ _. rose_from _ _ _ c.loop-bytes.invariant.never_falls c.in_err-n.ensures.failed.0
+returns-in_err-n-clause-failed g c = λ _. subst (λ n. Rose n (g.S.Source.faults c.read.new.self)) c.loop-bytes.invariant.unfaulted c.in_err-n.ensures.failed.0
 
 pub returns-then-n-len-clause-too_long : goal.returns-then-n-len-clause-too_long
 returns-then-n-len-clause-too_long g c = λ _.

@@ -1,4 +1,4 @@
-use Rattle.std.proofs.Common.{◌≤◌, ◌-◌, vec_len}
+use Rattle.std.proofs.Common.{◌≡◌, ◌≤◌, ◌-◌, vec_len}
 use Rattle.ag_top.proofs.Reading.{HasRead}
 use Rattle.ag_top.proofs.read.read_text.Given as goal
 
@@ -8,7 +8,7 @@ invariant-loop-bytes g l =
     record {
       read : HasRead (g.S.Source.left l.fn.source) (g.S.Source.left l.source) l.bytes.items;
       few : vec_len l.bytes ≤ 4194304;
-      never_falls : g.S.Source.faults l.fn.source ≤ g.S.Source.faults l.source;
+      unfaulted : g.S.Source.faults l.source ≡ g.S.Source.faults l.fn.source;
     }
 
 abbrev pub decreases-loop-bytes : goal.decreases-loop-bytes

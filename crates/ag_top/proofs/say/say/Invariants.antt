@@ -1,4 +1,4 @@
-use Rattle.std.proofs.Common.{◌≤◌, ◌-◌, length, take}
+use Rattle.std.proofs.Common.{◌≡◌, ◌≤◌, ◌-◌, length, take}
 use Rattle.ag_top.specs.Commands.{Grows}
 use Rattle.ag_top.proofs.say.say.Given as goal
 
@@ -8,7 +8,7 @@ invariant-loop-at g l =
     record {
       within : l.at ≤ length l.text;
       written : Grows (g.K.Sink.written l.fn.sink) (g.K.Sink.written l.sink) (take l.at l.text);
-      never_falls : g.K.Sink.faults l.fn.sink ≤ g.K.Sink.faults l.sink;
+      unfaulted : g.K.Sink.faults l.sink ≡ g.K.Sink.faults l.fn.sink;
     }
 
 abbrev pub decreases-loop-at : goal.decreases-loop-at
