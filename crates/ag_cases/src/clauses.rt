@@ -1,7 +1,7 @@
 //! Clauses: what those of an annex state.
 use ag_annex::{Binary, Clause, Site, Term, Ty, Unary, read_clauses};
 use ag_base::{List, Refused};
-use ag_lex::{TokenKind, annex_tokens, file_tokens};
+use ag_lex::{TokenKind, annex_tokens, file_tokens, files_are_text};
 use std::alloc::Global;
 use std::test::Fail;
 
@@ -14,6 +14,7 @@ fn read(alloc: Global, file: u32, site: Site, bytes: &[u8]) -> Result<List<Claus
     match tokens.as_slice() {
         [annex, ..] if matches!(annex.kind, TokenKind::Annex) => {
             let inside = annex_tokens(alloc, bytes, annex)?;
+            files_are_text();
             read_clauses(alloc, bytes, inside.as_slice(), site)
         }
         _ => Err(Refused::OutOfMemory),

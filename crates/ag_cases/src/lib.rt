@@ -1,4 +1,4 @@
-//! Worked cases: what the crates answer to texts, from tokens to whole runs of the program.
+//! Worked cases: what the crates answer to texts, from tokens to the rules on types, and what `print -` writes and refuses.
 //!
 //! It has no items but tests. Each module stands for one public call, and `rules` for all rules on annexes and
 //! types; most have tables with a case on each line, so that a case is added as a line. Start at `table`.
