@@ -1,5 +1,5 @@
 //! The engine for rows about differences.
-ghost use Rattle.std.specs.Prelude.{◌≡◌, ◌≤◌, ◌↔◌, ℕ, List, [], false, IfOk, IsErrOf};
+ghost use Rattle.std.specs.Prelude.{◌≡◌, ◌≤◌, ◌↔◌, ℕ, List, [], false, IfOk, IsErrOf, ◌⊎◌};
 ghost use Rattle.ag_base.specs.Outside.{Rose};
 ghost use Rattle.ag_base.specs.declared.Halted.TheVariants.{Stopped};
 ghost use Rattle.ag_query.specs.declared.query.Query.{Query};
@@ -71,6 +71,7 @@ impl Theory for DiffEngine {
         ensures stopped { IsErrOf result Stopped → Rose (H.yeses halt.old) (H.yeses halt.new) }
         ensures never_falls { H.yeses halt.old ≤ H.yeses halt.new }
         ensures follows { H.follows halt.old halt.new }
+        ensures unstopped { IsErrOf result Stopped ⊎ (H.yeses halt.new ≡ H.yeses halt.old) }
         ensures fitting { (query : Query) (lits : List Lit) → IsFitting query lits ↔ IsFitting query lits }
         ensures leaving { false ≡ false }
         ensures limited { ◌≡◌ {A = ℕ} 0 0 }
@@ -97,6 +98,7 @@ fn decide<H: Halt>(
     ensures stopped { IsErrOf result Stopped → Rose (H.yeses halt.old) (H.yeses halt.new) }
     ensures never_falls { H.yeses halt.old ≤ H.yeses halt.new }
     ensures follows { H.follows halt.old halt.new }
+    ensures unstopped { IsErrOf result Stopped ⊎ (H.yeses halt.new ≡ H.yeses halt.old) }
 {
     kernel.every_line_follows();
     let edges = edges_of(alloc, kernel.query(), lits)?;

@@ -1,5 +1,5 @@
 //! Lowers vertices along the edges, until all edges hold or some make a negative cycle.
-ghost use Rattle.std.specs.Prelude.{◌≡◌, ◌<◌, ◌≤◌, ◌+ℤ◌, ◌<ℤ◌, List, length, All, Contains, IfOk, IsErrOf, MatchOption};
+ghost use Rattle.std.specs.Prelude.{◌≡◌, ◌<◌, ◌≤◌, ◌+ℤ◌, ◌<ℤ◌, List, length, All, Contains, IfOk, IsErrOf, MatchOption, ◌⊎◌};
 ghost use Rattle.ag_base.specs.Outside.{Rose};
 ghost use Rattle.ag_base.specs.declared.Halted.TheVariants.{Stopped};
 ghost use Rattle.ag_diff.specs.Cycles.{IsNegativeCycle};
@@ -47,6 +47,7 @@ pub fn settle<H: Halt>(
     ensures stopped { IsErrOf result Stopped → Rose (H.yeses halt.old) (H.yeses halt.new) }
     ensures never_falls { H.yeses halt.old ≤ H.yeses halt.new }
     ensures follows { H.follows halt.old halt.new }
+    ensures unstopped { IsErrOf result Stopped ⊎ (H.yeses halt.new ≡ H.yeses halt.old) }
 {
     let fan = Fan::group(alloc, edges, vertices.len())?;
     let mut pending = Pending::new(alloc, vertices.len())?;

@@ -1,5 +1,5 @@
 //! Theories: deciders of the rows that literals say.
-ghost use Rattle.std.specs.Prelude.{◌≡◌, ◌≤◌, ◌↔◌, ℕ, Bool, List, IfOk, IsErrOf};
+ghost use Rattle.std.specs.Prelude.{◌≡◌, ◌≤◌, ◌↔◌, ℕ, Bool, List, IfOk, IsErrOf, ◌⊎◌};
 ghost use Rattle.ag_base.specs.Outside.{Rose};
 ghost use Rattle.ag_base.specs.declared.Halted.TheVariants.{Stopped};
 ghost use Rattle.ag_query.specs.declared.query.Query.{Query};
@@ -53,6 +53,7 @@ pub trait Theory {
         ensures stopped { IsErrOf result Stopped → Rose (H.yeses halt.old) (H.yeses halt.new) }
         ensures never_falls { H.yeses halt.old ≤ H.yeses halt.new }
         ensures follows { H.follows halt.old halt.new }
+        ensures unstopped { IsErrOf result Stopped ⊎ (H.yeses halt.new ≡ H.yeses halt.old) }
         // What it takes and how far it goes stay as they are.
         ensures fitting { (query : Query) (lits : List Lit) → fits self.old query lits ↔ fits self.new query lits }
         ensures leaving { leaves self.new ≡ leaves self.old }

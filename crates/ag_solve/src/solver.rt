@@ -1,5 +1,5 @@
 //! The solver.
-ghost use Rattle.std.specs.Prelude.{◌≤◌, ◌^◌, length, All, IfOk, IsErrOf, false};
+ghost use Rattle.std.specs.Prelude.{◌≤◌, ◌^◌, length, All, IfOk, IsErrOf, false, ◌≡◌, ◌⊎◌};
 ghost use Rattle.ag_base.specs.Outside.{Rose};
 ghost use Rattle.ag_base.specs.declared.Halted.TheVariants.{Stopped};
 ghost use Rattle.ag_diff.specs.Differences.{IsDifferenceQuery};
@@ -32,6 +32,7 @@ pub fn solve<H: Halt>(
     ensures stopped { IsErrOf result Stopped → Rose (H.yeses halt.old) (H.yeses halt.new) }
     ensures never_falls { H.yeses halt.old ≤ H.yeses halt.new }
     ensures follows { H.follows halt.old halt.new }
+    ensures unstopped { IsErrOf result Stopped ⊎ (H.yeses halt.new ≡ H.yeses halt.old) }
 {
     let mut theory = DiffEngine::make(alloc);
     search(alloc, query, &mut theory, limits.work, halt)

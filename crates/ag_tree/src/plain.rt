@@ -1,5 +1,5 @@
 //! The search: rounds until one decides.
-ghost use Rattle.std.specs.Prelude.{◌≡◌, ◌<◌, ◌≤◌, ◌^◌, ◌↔◌, ℕ, List, length, All, IfOk, IsErrOf};
+ghost use Rattle.std.specs.Prelude.{◌≡◌, ◌<◌, ◌≤◌, ◌^◌, ◌↔◌, ℕ, List, length, All, IfOk, IsErrOf, ◌⊎◌};
 ghost use Rattle.ag_base.specs.Outside.{Rose};
 ghost use Rattle.ag_base.specs.declared.Halted.TheVariants.{Stopped};
 ghost use Rattle.ag_query.specs.declared.clauses.Lit.{Lit};
@@ -38,6 +38,7 @@ pub fn search<T: Theory, H: Halt>(
     ensures stopped { IsErrOf result Stopped → Rose (H.yeses halt.old) (H.yeses halt.new) }
     ensures never_falls { H.yeses halt.old ≤ H.yeses halt.new }
     ensures follows { H.follows halt.old halt.new }
+    ensures unstopped { IsErrOf result Stopped ⊎ (H.yeses halt.new ≡ H.yeses halt.old) }
     // What the theory takes and how far it goes stay as they are.
     ensures fitting { (query : Query) (lits : List Lit) → T.fits theory.old query lits ↔ T.fits theory.new query lits }
     ensures leaving { T.leaves theory.new ≡ T.leaves theory.old }
@@ -63,6 +64,7 @@ fn go_on<T: Theory, H: Halt>(
     ensures stopped { IsErrOf result Stopped → Rose (H.yeses halt.old) (H.yeses halt.new) }
     ensures never_falls { H.yeses halt.old ≤ H.yeses halt.new }
     ensures follows { H.follows halt.old halt.new }
+    ensures unstopped { IsErrOf result Stopped ⊎ (H.yeses halt.new ≡ H.yeses halt.old) }
     ensures fitting { (query : Query) (lits : List Lit) → T.fits theory.old query lits ↔ T.fits theory.new query lits }
     ensures leaving { T.leaves theory.new ≡ T.leaves theory.old }
     ensures limited { T.limit theory.new ≡ T.limit theory.old }

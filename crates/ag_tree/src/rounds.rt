@@ -119,6 +119,7 @@ impl Progress {
         ensures stopped { IsErrOf result Stopped → Rose (H.yeses halt.old) (H.yeses halt.new) }
         ensures never_falls { H.yeses halt.old ≤ H.yeses halt.new }
         ensures follows { H.follows halt.old halt.new }
+        ensures unstopped { IsErrOf result Stopped ⊎ (H.yeses halt.new ≡ H.yeses halt.old) }
         ensures fitting { (query : Query) (lits : List Lit) → T.fits theory.old query lits ↔ T.fits theory.new query lits }
         ensures leaving { T.leaves theory.new ≡ T.leaves theory.old }
         ensures limited { T.limit theory.new ≡ T.limit theory.old }
@@ -151,6 +152,7 @@ impl Progress {
         ensures stopped { IsErrOf result Stopped → Rose (H.yeses halt.old) (H.yeses halt.new) }
         ensures never_falls { H.yeses halt.old ≤ H.yeses halt.new }
         ensures follows { H.follows halt.old halt.new }
+        ensures unstopped { IsErrOf result Stopped ⊎ (H.yeses halt.new ≡ H.yeses halt.old) }
         ensures fitting { (query : Query) (lits : List Lit) → T.fits theory.old query lits ↔ T.fits theory.new query lits }
         ensures leaving { T.leaves theory.new ≡ T.leaves theory.old }
         ensures limited { T.limit theory.new ≡ T.limit theory.old }
@@ -203,6 +205,7 @@ impl Progress {
         ensures stopped { IsErrOf result Stopped → Rose (H.yeses halt.old) (H.yeses halt.new) }
         ensures never_falls { H.yeses halt.old ≤ H.yeses halt.new }
         ensures follows { H.follows halt.old halt.new }
+        ensures unstopped { IsErrOf result Stopped ⊎ (H.yeses halt.new ≡ H.yeses halt.old) }
     {
         let fact = self.conclude(alloc, line)?;
         if fact.lits.is_empty() {

@@ -10,6 +10,7 @@ invariant-loop-alloc g l = record {
   causes : HaveCauses l.edges l.vertices;
   never_falls : g.H.Halt.yeses l.fn.halt ≤ g.H.Halt.yeses l.halt;
   follows : g.H.Halt.follows l.fn.halt l.halt;
+  unstopped : g.H.Halt.yeses l.halt ≡ g.H.Halt.yeses l.fn.halt;
 }
 
 abbrev pub decreases-loop-alloc : goal.decreases-loop-alloc

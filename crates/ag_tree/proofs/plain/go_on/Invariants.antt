@@ -12,6 +12,7 @@ invariant-loop-progress g l = record {
   few : length l.progress.facts ≤ l.work;
   yeses : g.H.Halt.yeses l.fn.halt ≤ g.H.Halt.yeses l.halt;
   follows : g.H.Halt.follows l.fn.halt l.halt;
+  unstopped : g.H.Halt.yeses l.halt ≡ g.H.Halt.yeses l.fn.halt;
   fitting : (query : Query) (lits : List Lit) → g.T.Theory.fits l.fn.theory query lits ↔ g.T.Theory.fits l.theory query lits;
   leaving : g.T.Theory.leaves l.theory ≡ g.T.Theory.leaves l.fn.theory;
   limited : g.T.Theory.limit l.theory ≡ g.T.Theory.limit l.fn.theory;
