@@ -19,6 +19,7 @@ use Rattle.ag_kernel.specs.Theories.{HasGrown, RefutesLits, SatisfiesRows, RowIs
 use Rattle.ag_tree.specs.declared.trail.Step.{Step}
 use Rattle.ag_tree.specs.declared.rounds.Progress.{Progress}
 use Rattle.ag_tree.specs.declared.rounds.Fact.{Fact}
+use Rattle.ag_tree.specs.declared.choices.Guide.{Guide}
 use Rattle.ag_tree.specs.Facts.{HasNoneBothWays, Lacks, IsAtRest, IsAtRestAlong, IsFact, AreFacts, literal_count}
 use Rattle.ag_tree.specs.Trail.{Seen, literals, denial, reasons, AreSound, IsSoundStep, IsDrawnBy, RestsBefore, IsAgainst, IsSettled, Draws, IsBackTo}
 use Rattle.ag_tree.specs.Going.{IsClauseLine, IsListed, IsAmong, PassesAs, PropagatesAs, known, IsGoing, IsReady, AreAtRest, IsConcluded, SettlesAs}
@@ -106,8 +107,8 @@ longer_sound before now [] more sound = tt
 longer_sound before now (s ∷ rest) more sound =
     (record { fresh = sound.0.fresh; drawn = λ n e. longer_drawn before now n s.lit (literals rest) more (sound.0.drawn n e) }, longer_sound before now rest more sound.1)
 
-pub going_grown : (s : Progress) (k : State) (asked : ℕ) → IsGoing s → HasGrown s.kernel k → take (length k.query.atoms) k.atoms ≡ k.query.atoms → IsGoing (record s { kernel = k; asked = asked })
-going_grown s k asked g grown begins =
+pub going_grown : (s : Progress) (k : State) (asked : ℕ) (guide : Guide) → IsGoing s → HasGrown s.kernel k → take (length k.query.atoms) k.atoms ≡ k.query.atoms → IsGoing (record s { kernel = k; asked = asked; guide = guide })
+going_grown s k asked guide g grown begins =
     let more : IsLonger s.kernel.lines k.lines = record { begins = grown.lines } in
     let e : s.kernel.query ≡ k.query = sym grown.query in
     let L : LClause → Type 0 = λ c. IsListed s.kernel.lines s.occurrences c.lits in
@@ -126,8 +127,8 @@ going_grown s k asked g grown begins =
       unseen = All-weaker (IsClauseLine s.kernel.lines s.trail.atoms) (IsClauseLine k.lines s.trail.atoms) (λ n h. longer_clause s.kernel.lines k.lines s.trail.atoms n more h) s.unseen.items g.unseen;
     }
 
-pub going_asked : (s : Progress) (asked : ℕ) → IsGoing s → IsGoing (record s { asked = asked })
-going_asked s asked g = record {
+pub going_asked : (s : Progress) (asked : ℕ) (guide : Guide) → IsGoing s → IsGoing (record s { asked = asked; guide = guide })
+going_asked s asked guide g = record {
   begins = g.begins;
   atoms = g.atoms;
   sound = g.sound;
@@ -264,8 +265,8 @@ added_listed : (lines : List Line) (before now : List (List ℕ)) (lits clause :
 added_listed lines before now lits clause line a c =
     record { number = c.number; there = c.there; is_line = c.is_line; under = λ k d lt. a.kept (contrary (get_or clause k d)) c.number (c.under k d lt) }
 
-pub learned_going : (s : Progress) (fact : Fact) (lists : List (List ℕ)) (t : Seen) (l : Lit) (f : LClause) (facts : List LClause) (count head asked lowest : ℕ) (unseen : Vec ℕ Global) → IsGoing s → IsConcluded s fact → 0 < length fact.lits.items → s.literals + length fact.lits.items ≤ 600000 → IsAdded s.occurrences lists fact.lits.items fact.number → IsBackTo s.trail.steps t.steps l → t.atoms ≡ s.trail.atoms → f.lits ≡ fact.lits.items → facts ≡ s.facts ++ f ∷ [] → count ≡ s.literals + length fact.lits.items → unseen.items ≡ fact.number ∷ [] → IsGoing (record { kernel = s.kernel; occurrences = lists; trail = t; facts = facts; literals = count; head = head; unseen = unseen; asked = asked; lowest = lowest })
-learned_going s fact lists t l f facts count head asked lowest unseen g c some few a back atoms lits is counted one =
+pub learned_going : (s : Progress) (fact : Fact) (lists : List (List ℕ)) (t : Seen) (l : Lit) (f : LClause) (facts : List LClause) (count head asked : ℕ) (guide : Guide) (unseen : Vec ℕ Global) → IsGoing s → IsConcluded s fact → 0 < length fact.lits.items → s.literals + length fact.lits.items ≤ 600000 → IsAdded s.occurrences lists fact.lits.items fact.number → IsBackTo s.trail.steps t.steps l → t.atoms ≡ s.trail.atoms → f.lits ≡ fact.lits.items → facts ≡ s.facts ++ f ∷ [] → count ≡ s.literals + length fact.lits.items → unseen.items ≡ fact.number ∷ [] → IsGoing (record { kernel = s.kernel; occurrences = lists; trail = t; facts = facts; literals = count; head = head; unseen = unseen; asked = asked; guide = guide })
+learned_going s fact lists t l f facts count head asked guide unseen g c some few a back atoms lits is counted one =
     let q : Query = s.kernel.query in
     let lines : List Line = s.kernel.lines in
     let C : ℕ → ℕ → Type 0 = λ n k. IsClauseLine lines n k in
@@ -297,8 +298,8 @@ learned_going s fact lists t l f facts count head asked lowest unseen g c some f
       unseen = subst (λ (ns : List ℕ). All (C t.atoms) ns) (sym one) (subst (λ (k : ℕ). All (C k) (fact.number ∷ [])) (sym atoms) (All-cons (C s.trail.atoms) fact.number [] line (All-nil (C s.trail.atoms))));
     }
 
-pub learned_ready : (s : Progress) (fact : Fact) (lists : List (List ℕ)) (t : Seen) (l : Lit) (f : LClause) (facts : List LClause) (count head asked lowest : ℕ) (unseen : Vec ℕ Global) → IsGoing s → IsConcluded s fact → IsBackTo s.trail.steps t.steps l → f.lits ≡ fact.lits.items → facts ≡ s.facts ++ f ∷ [] → head ≡ length t.steps → unseen.items ≡ fact.number ∷ [] → IsReady (record { kernel = s.kernel; occurrences = lists; trail = t; facts = facts; literals = count; head = head; unseen = unseen; asked = asked; lowest = lowest })
-learned_ready s fact lists t l f facts count head asked lowest unseen g c back lits is at one =
+pub learned_ready : (s : Progress) (fact : Fact) (lists : List (List ℕ)) (t : Seen) (l : Lit) (f : LClause) (facts : List LClause) (count head asked : ℕ) (guide : Guide) (unseen : Vec ℕ Global) → IsGoing s → IsConcluded s fact → IsBackTo s.trail.steps t.steps l → f.lits ≡ fact.lits.items → facts ≡ s.facts ++ f ∷ [] → head ≡ length t.steps → unseen.items ≡ fact.number ∷ [] → IsReady (record { kernel = s.kernel; occurrences = lists; trail = t; facts = facts; literals = count; head = head; unseen = unseen; asked = asked; guide = guide })
+learned_ready s fact lists t l f facts count head asked guide unseen g c back lits is at one =
     let q : Query = s.kernel.query in
     let whole : (q.clauses ++ s.facts) ++ f ∷ [] ≡ q.clauses ++ facts = append_assoc q.clauses s.facts (f ∷ []) ∙ ap (λ (xs : List LClause). q.clauses ++ xs) (sym is) in
     let R : LClause → Type 0 = λ x. IsAtRest (literals t.steps) x.lits in
@@ -316,10 +317,10 @@ learned_ready s fact lists t l f facts count head asked lowest unseen g c back l
 
 -- ---- a choice
 
-pub chosen_going : (s : Progress) (t : Seen) (l : Lit) (head lowest : ℕ) → IsGoing s → AreAtRest s → Lacks (literals s.trail.steps) l.atom → t ≡ record { atoms = s.trail.atoms; steps = record { lit = l; reason = None } ∷ s.trail.steps } → IsGoing (record s { trail = t; head = head; lowest = lowest })
-chosen_going s t l head lowest g rest lacks is =
+pub chosen_going : (s : Progress) (t : Seen) (l : Lit) (head : ℕ) (guide : Guide) → IsGoing s → AreAtRest s → Lacks (literals s.trail.steps) l.atom → t ≡ record { atoms = s.trail.atoms; steps = record { lit = l; reason = None } ∷ s.trail.steps } → IsGoing (record s { trail = t; head = head; guide = guide })
+chosen_going s t l head guide g rest lacks is =
     let step : IsSoundStep s.kernel.lines (record { lit = l; reason = None }) s.trail.steps = record { fresh = lacks; drawn = λ n e. absurd (none_some None n refl e) } in
-    subst (λ (x : Seen). IsGoing (record s { trail = x; head = head; lowest = lowest })) (sym is) (record {
+    subst (λ (x : Seen). IsGoing (record s { trail = x; head = head; guide = guide })) (sym is) (record {
       begins = g.begins;
       atoms = g.atoms;
       sound = (step, g.sound);
@@ -333,8 +334,8 @@ chosen_going s t l head lowest g rest lacks is =
       unseen = g.unseen;
     })
 
-pub chosen_ready : (s : Progress) (t : Seen) (l : Lit) (head lowest : ℕ) → AreAtRest s → head ≡ length s.trail.steps → t ≡ record { atoms = s.trail.atoms; steps = record { lit = l; reason = None } ∷ s.trail.steps } → IsReady (record s { trail = t; head = head; lowest = lowest })
-chosen_ready s t l head lowest rest at is =
+pub chosen_ready : (s : Progress) (t : Seen) (l : Lit) (head : ℕ) (guide : Guide) → AreAtRest s → head ≡ length s.trail.steps → t ≡ record { atoms = s.trail.atoms; steps = record { lit = l; reason = None } ∷ s.trail.steps } → IsReady (record s { trail = t; head = head; guide = guide })
+chosen_ready s t l head guide rest at is =
     let step : Step = record { lit = l; reason = None } in
     let S : List Step → LClause → Type 0 = λ xs x. IsSettled head xs x.lits in
     let steps : t.steps ≡ step ∷ s.trail.steps = ap (λ (x : Seen). x.steps) is in

@@ -2,6 +2,7 @@
 use Rattle.std.proofs.Common.{◌≡◌, ◌⊎◌, inl, inr, ℕ, ◌+◌, ◌-◌, ◌*◌, ◌<◌, ◌≤◌, ◌||◌, Bool, true, false, ℤ, List, [], length, get_or, reverse, Option, Some, None, refl, sym, ap, subst, ◌∙◌, arith, All, Contains}
 use Rattle.std.specs.Bool.{beq}
 use Rattle.std.specs.List.{Any}
+use Rattle.std.specs.Option.{MatchOption}
 use Rattle.std.proofs.lemmas.List.{get_or-take}
 use Rattle.std.proofs.lemmas.List.Elements.{All-contains}
 use Rattle.std.proofs.lemmas.List.Folds.{list_any-from_Any}
@@ -25,7 +26,7 @@ use Rattle.ag_tree.specs.Answers.{IsMet, IsSpent, IsLeafOf}
 use Rattle.ag_tree.specs.Trail.{literals, truth_in}
 use Rattle.ag_tree.specs.declared.rounds.Round.{Round}
 use Rattle.ag_tree.specs.declared.rounds.Round.TheVariants.{Going, Sat, Unsat, Spent, Leaf}
-use Rattle.ag_tree.specs.Going.{IsGoing, AreAtRest, IsConcluded, Keeps, left, EndsAs}
+use Rattle.ag_tree.specs.Going.{IsGoing, AreAtRest, AreMet, IsConcluded, Keeps, left, EndsAs}
 use Rattle.ag_tree.proofs.Lits.{contains_reverse, any_at, truth_has, truth_lacks}
 use Rattle.ag_tree.proofs.Values.{fresh_plain}
 use Rattle.ag_tree.proofs.NewFacts.{sound_fresh, all_left}
@@ -49,7 +50,7 @@ spent_from s fact work g c some spent = record {
 -- ---- a trail without an atom that has no value
 
 -- each clause has a literal of the trail
-has_literal : (s : Progress) → IsGoing s → AreAtRest s → ((a : ℕ) → a < s.trail.atoms → Lacks (literals s.trail.steps) a → ⊥) → All (λ c. Any (Contains (literals s.trail.steps)) c.lits) s.kernel.query.clauses
+has_literal : (s : Progress) → IsGoing s → AreAtRest s → ((a : ℕ) → a < s.trail.atoms → Lacks (literals s.trail.steps) a → ⊥) → AreMet (literals s.trail.steps) s.kernel.query.clauses
 has_literal s g rest full k d lt =
     let q : Query = s.kernel.query in
     let R : LClause → Type 0 = λ c. IsAtRest (literals s.trail.steps) c.lits in
@@ -102,15 +103,20 @@ lit_said s numbers flags g sat said l has lt =
     beq_of (truth_at q.atoms (assignment_of v) l.atom) l.holds
     (atom_said v l.atom l.holds (get_or q.atoms l.atom Free) (All-contains F (literals s.trail.steps) l said has) (λ r e. row r (ap row_of same ∙ e)))
 
-pub met_from : (s : Progress) (numbers : List ℤ) (flags : List Bool) → IsGoing s → AreAtRest s → SatisfiesRows s.kernel (literals s.trail.steps) numbers → ((a : ℕ) → a < s.trail.atoms → Lacks (literals s.trail.steps) a → ⊥) → length flags ≡ s.trail.atoms → All (λ l. get_or flags l.atom false ≡ l.holds) (literals s.trail.steps) → IsMet s.kernel.query (record { whole = numbers; flags = flags })
-met_from s numbers flags g rest sat full count said =
+-- an atom without a value, or a literal of each clause
+pub next_said : (s : Progress) (next : Option ℕ) → IsGoing s → AreAtRest s → MatchOption next ((a : ℕ) → a < s.trail.atoms → Lacks (literals s.trail.steps) a → ⊥) (λ a. (a < s.trail.atoms) × Lacks (literals s.trail.steps) a) → MatchOption next (AreMet (literals s.trail.steps) s.kernel.query.clauses) (λ a. (a < s.trail.atoms) × Lacks (literals s.trail.steps) a)
+next_said s None g rest full = has_literal s g rest full
+next_said s (Some a) g rest said = said
+
+pub met_from : (s : Progress) (numbers : List ℤ) (flags : List Bool) → IsGoing s → AreMet (literals s.trail.steps) s.kernel.query.clauses → SatisfiesRows s.kernel (literals s.trail.steps) numbers → length flags ≡ s.trail.atoms → All (λ l. get_or flags l.atom false ≡ l.holds) (literals s.trail.steps) → IsMet s.kernel.query (record { whole = numbers; flags = flags })
+met_from s numbers flags g each sat count said =
     let q : Query = s.kernel.query in
     let v : Valuation = record { whole = numbers; flags = flags } in
     record {
       whole = sat.count;
       flags = count ∙ g.atoms;
       meets = λ k d lt.
-          let any = has_literal s g rest full k d lt in
+          let any = each k d lt in
           let B : Lit → Type 0 = λ l. l.atom < length q.atoms in
           let below : any.1.atom < length q.atoms = All-contains B (get_or q.clauses k d).lits any.1 (q.literals k d lt) (any.0, any.2, any.3) in
           list_any-from_Any (lit_holds q.atoms (assignment_of v)) (get_or q.clauses k d).lits (any.0, any.1, any.2, any.3, lit_said s numbers flags g sat said any.1 any.4 below);

@@ -14,6 +14,7 @@ use Rattle.ag_kernel.specs.declared.line.Line.{Line}
 use Rattle.ag_kernel.specs.State.{State}
 use Rattle.ag_kernel.specs.Rules.{line_at, clause_line}
 use Rattle.ag_tree.specs.declared.rounds.Progress.{Progress}
+use Rattle.ag_tree.specs.declared.choices.Guide.{Guide}
 use Rattle.ag_tree.specs.Facts.{HasNoneBothWays}
 use Rattle.ag_tree.specs.Trail.{Seen, IsSettled}
 use Rattle.ag_tree.specs.Going.{IsClauseLine, IsListed, IsAmong, IsGoing, IsReady}
@@ -101,12 +102,12 @@ begun_unseen query numbers plain is =
     let low : k < n = omega (arith, lt, length-range_with_len 0 n) in
     subst P (sym (get_or-range_with_len 0 n k d low ∙ omega arith)) (first_line query k plain low))
 
-pub started_going : (query : Query) (k : State) (lists : List (List ℕ)) (t : Seen) (facts : List LClause) (unseen : Vec ℕ Global) → All (λ c. HasNoneBothWays c.lits) query.clauses → k ≡ record { query = query; atoms = query.atoms; lines = map clause_line query.clauses } → t ≡ record { atoms = length query.atoms; steps = [] } → facts ≡ [] → length lists ≡ 2 * length query.atoms → ((l : Lit) (n : ℕ) → Contains (listed lists l) n → n < length query.clauses) → ((k : ℕ) (c : LClause) → k < length query.clauses → get_or query.clauses k c ≡ c → All (λ l. Contains (listed lists (contrary l)) k) c.lits) → unseen.items ≡ range_with_len 0 (length query.clauses) → IsGoing (record { kernel = k; occurrences = lists; trail = t; facts = facts; literals = 0; head = 0; unseen = unseen; asked = 0; lowest = 0 })
+pub started_going : (query : Query) (k : State) (lists : List (List ℕ)) (t : Seen) (facts : List LClause) (unseen : Vec ℕ Global) (guide : Guide) → All (λ c. HasNoneBothWays c.lits) query.clauses → k ≡ record { query = query; atoms = query.atoms; lines = map clause_line query.clauses } → t ≡ record { atoms = length query.atoms; steps = [] } → facts ≡ [] → length lists ≡ 2 * length query.atoms → ((l : Lit) (n : ℕ) → Contains (listed lists l) n → n < length query.clauses) → ((k : ℕ) (c : LClause) → k < length query.clauses → get_or query.clauses k c ≡ c → All (λ l. Contains (listed lists (contrary l)) k) c.lits) → unseen.items ≡ range_with_len 0 (length query.clauses) → IsGoing (record { kernel = k; occurrences = lists; trail = t; facts = facts; literals = 0; head = 0; unseen = unseen; asked = 0; guide = guide })
 unfolding first
-started_going query k lists t facts unseen plain of at none slots only under is =
+started_going query k lists t facts unseen guide plain of at none slots only under is =
     let lines : List Line = map clause_line query.clauses in
     let L : LClause → Type 0 = λ c. IsListed lines lists c.lits in
-    let P : State → Seen → List LClause → Progress = λ x y z. record { kernel = x; occurrences = lists; trail = y; facts = z; literals = 0; head = 0; unseen = unseen; asked = 0; lowest = 0 } in
+    let P : State → Seen → List LClause → Progress = λ x y z. record { kernel = x; occurrences = lists; trail = y; facts = z; literals = 0; head = 0; unseen = unseen; asked = 0; guide = guide } in
     let here : IsGoing (P (first query) (record { atoms = length query.atoms; steps = [] }) []) = record {
       begins = take_all (length query.atoms) query.atoms (omega arith);
       atoms = refl;
@@ -124,10 +125,10 @@ started_going query k lists t facts unseen plain of at none slots only under is 
     (subst (λ (y : Seen). IsGoing (P (first query) y facts)) (sym at)
     (subst (λ (z : List LClause). IsGoing (P (first query) (record { atoms = length query.atoms; steps = [] }) z)) (sym none) here))
 
-pub started_ready : (query : Query) (k : State) (lists : List (List ℕ)) (t : Seen) (facts : List LClause) (unseen : Vec ℕ Global) → k ≡ record { query = query; atoms = query.atoms; lines = map clause_line query.clauses } → facts ≡ [] → unseen.items ≡ range_with_len 0 (length query.clauses) → IsReady (record { kernel = k; occurrences = lists; trail = t; facts = facts; literals = 0; head = 0; unseen = unseen; asked = 0; lowest = 0 })
+pub started_ready : (query : Query) (k : State) (lists : List (List ℕ)) (t : Seen) (facts : List LClause) (unseen : Vec ℕ Global) (guide : Guide) → k ≡ record { query = query; atoms = query.atoms; lines = map clause_line query.clauses } → facts ≡ [] → unseen.items ≡ range_with_len 0 (length query.clauses) → IsReady (record { kernel = k; occurrences = lists; trail = t; facts = facts; literals = 0; head = 0; unseen = unseen; asked = 0; guide = guide })
 unfolding first
-started_ready query k lists t facts unseen of none is =
-    let P : State → List LClause → Progress = λ x z. record { kernel = x; occurrences = lists; trail = t; facts = z; literals = 0; head = 0; unseen = unseen; asked = 0; lowest = 0 } in
+started_ready query k lists t facts unseen guide of none is =
+    let P : State → List LClause → Progress = λ x z. record { kernel = x; occurrences = lists; trail = t; facts = z; literals = 0; head = 0; unseen = unseen; asked = 0; guide = guide } in
     let lines : List Line = map clause_line query.clauses in
     let A : LClause → Type 0 = λ c. IsSettled 0 t.steps c.lits ⊎ IsAmong lines unseen.items c.lits in
     let here : IsReady (P (first query) []) = record {

@@ -1,6 +1,7 @@
 -- The values of a trail, and its steps.
 use Rattle.std.proofs.Common.{◌≡◌, ◌≢◌, inl, inr, ℕ, ◌+◌, ◌<◌, Bool, false, not, cond, List, [], ◌∷◌, length, get_or, set, map, reverse, Option, Some, None, refl, sym, ap, ◌∙◌, arith, All, Contains}
-use Rattle.std.specs.Option.{is_some, unwrap_or}
+use Rattle.std.specs.Option.{MatchOption, is_some, unwrap_or}
+use Rattle.std.specs.Bool.{⊤}
 use Rattle.std.proofs.lemmas.List.{get_or-set_same, get_or-set_other, get_or_past, get_or-map, reverse-reverse}
 use Rattle.std.proofs.lemmas.List.Elements.{All-contains}
 use Rattle.std.proofs.lemmas.List.Sums.{sum_by-set}
@@ -9,7 +10,7 @@ use Rattle.ag_query.specs.declared.clauses.Lit.{Lit}
 use Rattle.ag_query.specs.Meaning.{contrary}
 use Rattle.ag_tree.specs.declared.trail.Step.{Step}
 use Rattle.ag_tree.specs.Facts.{HasNoneBothWays}
-use Rattle.ag_tree.specs.Trail.{literals, truth_in}
+use Rattle.ag_tree.specs.Trail.{HasReason, literals, truth_in}
 use Rattle.ag_tree.specs.Keeping.{AreFresh, unset}
 use Rattle.ag_tree.proofs.Lits.{not_self, some_same, none_some, truth_here, truth_past, lacks_truth, contains_cases, contains_none, contains_all, contains_map, contains_reverse, map_reverse}
 
@@ -104,3 +105,8 @@ step_below values steps tied fresh s has =
 
 pub step_below_back : (values : List (Option Bool)) (steps : List Step) → AreTied values steps → AreFresh steps → (s : Step) → Contains steps s → s.lit.atom < length values
 step_below_back values steps tied fresh s has = literals_below values steps tied fresh s.lit (contains_map (λ (x : Step). x.lit) steps s has)
+
+-- the line from which a step was drawn
+pub reason_said : (steps : List Step) (s : Step) (reason : Option ℕ) → Contains steps s → s.reason ≡ reason → MatchOption reason ⊤ (HasReason steps)
+reason_said steps s None has is = tt
+reason_said steps s (Some n) has is = (s, has, is)

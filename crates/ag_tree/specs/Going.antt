@@ -1,5 +1,5 @@
 -- What a search keeps from round to round.
-use Rattle.std.specs.Prelude.{◌≡◌, ◌⊎◌, ◌<◌, ◌≤◌, ◌+◌, ◌-◌, ◌*◌, ◌++◌, ℕ, Bool, List, length, take, All, Contains, IsNone, IsTrue, Option, Some, None}
+use Rattle.std.specs.Prelude.{◌≡◌, ◌⊎◌, ◌<◌, ◌≤◌, ◌+◌, ◌-◌, ◌*◌, ◌++◌, ℕ, Bool, List, length, take, All, Any, Contains, IsNone, IsTrue, Option, Some, None}
 use Rattle.ag_query.specs.declared.clauses.Lit.{Lit}
 use Rattle.ag_query.specs.declared.clauses.LClause.{LClause}
 use Rattle.ag_query.specs.Meaning.{Follows, contrary}
@@ -80,6 +80,10 @@ pub record Keeps (before now : Progress) : Type 0 where
 
 abbrev pub AreAtRest : Progress → Type 0
 AreAtRest s = IsAtRestAlong (literals s.trail.steps) (known s)
+
+-- the list has a literal of each clause
+abbrev pub AreMet : List Lit → List LClause → Type 0
+AreMet lits clauses = All (λ c. Any (Contains lits) c.lits) clauses
 
 -- the trail is at rest, or a line is against it
 abbrev pub SettlesAs : Progress → Option ℕ → Type 0

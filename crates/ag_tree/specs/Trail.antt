@@ -26,6 +26,10 @@ denial steps = map (λ s. contrary s.lit) (filter (λ s. is_none s.reason) steps
 abbrev pub reasons : List Step → List ℕ
 reasons steps = filter_map (λ s. s.reason) (reverse steps)
 
+-- a step was drawn from the line
+abbrev pub HasReason : List Step → ℕ → Type 0
+HasReason steps n = (s : Step) × Contains steps s × (s.reason ≡ Some n)
+
 -- what a list of literals says of an atom
 abbrev pub truth_in : List Lit → ℕ → Option Bool
 truth_in [] a = None

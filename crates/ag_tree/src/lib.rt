@@ -7,6 +7,8 @@
 #![tactic(auto)]
 
 mod both_ways;
+mod choices;
+mod cone;
 mod occurrences;
 mod plain;
 mod propagation;

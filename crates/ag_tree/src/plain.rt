@@ -15,9 +15,10 @@ use ag_kernel::Theory;
 use ag_query::Query;
 use std::alloc::Global;
 
-/// Searches for a valuation that meets the query, and keeps at most `work` facts. Atoms are chosen
-/// by number, the lowest first, each as one that holds. It asks the halt at each fact, and the theory
-/// where the literals are at rest and a new one of them says a row, or no atom is without a value.
+/// Searches for a valuation that meets the query, and keeps at most `work` facts. It chooses an atom
+/// of the first clause without a true literal: an atom with a row as the numbers have it that the
+/// theory found last, any other as one that doesn't hold. It asks the halt at each fact, and the theory
+/// where the literals are at rest and a new one of them says a row, or each clause has a true one.
 ///
 /// Of a leaf the contract doesn't say yet that trying its rows goes past the theory's limit. A query
 /// of more atoms than u32 can number is answered by `OutOfMemory`.

@@ -59,8 +59,29 @@ pub fn pass(kernel: &Kernel, numbers: &[u32], trail: &mut Trail) -> Result<Optio
     Ok(None)
 }
 
+/// Adds a clause that follows by unit steps along the lines. A few of them are tried first.
+pub fn add_line(
+    kernel: &mut Kernel,
+    clause: &[Lit],
+    lines: &[u32],
+    few: &[u32],
+) -> Result<u32, OutOfMemory>
+    requires there { All (λ n. n < length kernel.old.lines) lines.now }
+    requires implied { CanConclude kernel.old clause.now lines.now }
+    ensures line { IfOk result (λ n. Adds kernel.old kernel.new n (record { lits = clause.now; row = None })) }
+    ensures follows { IfOk result (FollowsAt kernel.new) }
+{
+    match kernel.by_units(clause, few) {
+        Ok(number) => Ok(number),
+        Err(KernelFault::OutOfMemory) => Err(OutOfMemory),
+        Err(KernelFault::NotThere(_)) => along(kernel, clause, lines),
+        Err(KernelFault::NotImplied) => along(kernel, clause, lines),
+        Err(KernelFault::Wide) => along(kernel, clause, lines),
+    }
+}
+
 /// Adds a clause that follows by unit steps along the lines.
-pub fn add_line(kernel: &mut Kernel, clause: &[Lit], lines: &[u32]) -> Result<u32, OutOfMemory>
+fn along(kernel: &mut Kernel, clause: &[Lit], lines: &[u32]) -> Result<u32, OutOfMemory>
     requires there { All (λ n. n < length kernel.old.lines) lines.now }
     requires implied { CanConclude kernel.old clause.now lines.now }
     ensures line { IfOk result (λ n. Adds kernel.old kernel.new n (record { lits = clause.now; row = None })) }

@@ -1,5 +1,5 @@
 //! One round of a search after another.
-ghost use Rattle.std.specs.Prelude.{◌≡◌, ◌≢◌, ◌⊎◌, ◌<◌, ◌≤◌, ◌+◌, ◌↔◌, [], ℕ, Bool, List, length, All, Contains, IsTrue, IsFalse, OnOk, IfOk, IsErrOf, slice_index_or};
+ghost use Rattle.std.specs.Prelude.{◌≡◌, ◌≢◌, ◌⊎◌, ◌<◌, ◌≤◌, ◌+◌, ◌↔◌, [], ℕ, Bool, List, length, All, Contains, IsTrue, IsFalse, OnOk, IfOk, IsErrOf, MatchOption, slice_index_or};
 ghost use Rattle.std.specs.List.{range_with_len};
 ghost use Rattle.ag_base.specs.Outside.{Rose};
 ghost use Rattle.ag_base.specs.declared.Halted.TheVariants.{Stopped};
@@ -9,10 +9,12 @@ ghost use Rattle.ag_query.specs.declared.query.Query.{Query};
 ghost use Rattle.ag_query.specs.Meaning.{contrary};
 ghost use Rattle.ag_tree.specs.Facts.{HasNoneBothWays, Lacks};
 ghost use Rattle.ag_kernel.specs.Theories.{SatisfiesRows};
-ghost use Rattle.ag_tree.specs.Going.{AreAtRest, EndsAs, IsConcluded, IsGoing, IsReady, Keeps, ReachesAs, SettlesAs};
+ghost use Rattle.ag_tree.specs.Going.{AreAtRest, AreMet, EndsAs, IsConcluded, IsGoing, IsReady, Keeps, ReachesAs, SettlesAs};
 ghost use Rattle.ag_tree.specs.Listing.{listed, slot};
 ghost use Rattle.ag_tree.specs.Trail.{IsAgainst, literals};
 
+use crate::choices::Guide;
+use crate::cone::cone_of;
 use crate::occurrences::Occurrences;
 use crate::propagation::{add_line, pass, propagate};
 use crate::trail::{Step, Trail};
@@ -40,8 +42,7 @@ pub struct Progress {
     pub unseen: Vec<u32>,
     /// How many steps the theory has seen, or have literals that say no row.
     pub asked: usize,
-    /// Where the next choice is looked for first.
-    pub lowest: u32,
+    pub guide: Guide,
 }
 
 /// The contraries of the choices, and the line that says them.
@@ -99,7 +100,7 @@ impl Progress {
             head: 0,
             unseen,
             asked: 0,
-            lowest: 0,
+            guide: Guide::new(alloc),
         })
     }
 
@@ -135,8 +136,8 @@ impl Progress {
         }
     }
 
-    /// Comes to rest and asks the theory, or comes to a conflict. The theory isn't asked where an atom
-    /// is without a value and no new literal says a row.
+    /// Comes to rest and asks the theory, or comes to a conflict. The theory isn't asked where no new
+    /// literal says a row and a clause is without a true literal.
     fn reach<T: Theory, H: Halt>(
         &mut self,
         alloc: Global,
@@ -160,9 +161,11 @@ impl Progress {
         if let Some(line) = self.settle()? {
             return Ok(Reached::Conflict(line));
         }
-        let due = says_row(&self.trail, self.asked, self.kernel.query());
+        self.guide
+            .go_on(&self.trail, self.kernel.query().clauses.as_slice());
+        let due = self.is_due();
         self.asked = self.trail.len();
-        if !due && let Some(atom) = self.trail.first_unset(self.lowest) {
+        if !due && let Some(atom) = self.trail.first_unset(self.guide.atom()) {
             return Ok(Reached::Open(atom));
         }
         let lits = self.trail.lits(alloc)?;
@@ -171,6 +174,12 @@ impl Progress {
             Found::Line(line) => Ok(Reached::Conflict(line)),
             Found::Leaf => Ok(Reached::Leaf),
         }
+    }
+
+    /// Whether the theory is to be asked, though atoms may be without a value.
+    fn is_due(&self) -> bool {
+        let query = self.kernel.query();
+        says_row(&self.trail, self.asked, query) || self.guide.is_in_doubt(query.clauses.len())
     }
 
     /// Draws what follows until the trail is at rest, or a line is against it.
@@ -222,15 +231,16 @@ impl Progress {
     }
 
     /// Chooses the next atom, or has a valuation, where the trail is at rest and the numbers are as
-    /// it says.
+    /// it says. Atoms that have no value then are given as ones that don't hold.
     fn after_model(&mut self, alloc: Global, whole: List<i64>) -> Result<Round, OutOfMemory>
         requires going { IsGoing self.old }
         requires rest { AreAtRest self.old }
         requires rows { SatisfiesRows self.old.kernel (literals self.old.trail.steps) whole }
         ensures ends { (leaves : Bool) (work : ℕ) → length self.old.facts ≤ work → IfOk result (EndsAs leaves work self.old self.new) }
     {
-        match self.trail.first_unset(self.lowest) {
+        match self.next() {
             Some(atom) => {
+                self.guide.found(whole);
                 self.choose(atom)?;
                 Ok(Round::Going)
             }
@@ -247,8 +257,9 @@ impl Progress {
         requires rest { AreAtRest self.old }
         ensures ends { (leaves : Bool) (work : ℕ) → IsTrue leaves → length self.old.facts ≤ work → IfOk result (EndsAs leaves work self.old self.new) }
     {
-        match self.trail.first_unset(self.lowest) {
+        match self.trail.first_unset(self.guide.atom()) {
             Some(atom) => {
+                self.guide.gave_up();
                 self.choose(atom)?;
                 Ok(Round::Going)
             }
@@ -266,7 +277,8 @@ impl Progress {
     {
         let lits = self.trail.denial(alloc)?;
         let lines = self.trail.reasons(alloc, line)?;
-        let number = add_line(&mut self.kernel, &lits, &lines)?;
+        let cone = cone_of(alloc, &self.kernel, &self.trail, line)?;
+        let number = add_line(&mut self.kernel, &lits, &lines, &cone)?;
         Ok(Fact { lits, number })
     }
 
@@ -301,7 +313,7 @@ impl Progress {
         let Some(choice) = self.trail.back() else {
             unreachable!();
         };
-        self.lowest = choice.atom;
+        self.guide.taken_back(choice.atom);
         let steps = self.trail.len();
         self.head = steps;
         self.asked = self.asked.min(steps);
@@ -310,7 +322,7 @@ impl Progress {
         Ok(())
     }
 
-    /// Chooses that the atom holds.
+    /// Chooses a truth for the atom.
     fn choose(&mut self, atom: u32) -> Result<(), OutOfMemory>
         requires going { IsGoing self.old }
         requires rest { AreAtRest self.old }
@@ -322,13 +334,39 @@ impl Progress {
         ensures more { OnOk result (length self.new.trail.steps ≡ length self.old.trail.steps + 1) }
         ensures room { OnOk result (length self.new.trail.steps ≤ self.new.trail.atoms) }
     {
-        self.lowest = atom;
+        let holds = self.guide.truth(self.kernel.query(), atom);
+        self.guide.chosen(atom)?;
         self.head = self.trail.len();
         self.trail.push(Step {
-            lit: Lit { atom, holds: true },
+            lit: Lit { atom, holds },
             reason: None,
         })
     }
+
+    /// An atom for the next choice. There is none where each clause has a true literal.
+    fn next(&self) -> Option<u32>
+        requires going { IsGoing self.now }
+        requires rest { AreAtRest self.now }
+        ensures { MatchOption result (AreMet (literals self.now.trail.steps) self.now.kernel.query.clauses) (λ a. (a < self.now.trail.atoms) × Lacks (literals self.now.trail.steps) a) }
+    {
+        let clauses = self.kernel.query().clauses.as_slice();
+        if self.guide.is_at_end(clauses.len()) && are_met(&self.trail, clauses) {
+            return None;
+        }
+        self.trail.first_unset(self.guide.atom())
+    }
+}
+
+/// Whether each clause has a true literal.
+fn are_met(trail: &Trail, clauses: &[LClause]) -> bool
+    ensures { IsTrue result → AreMet (literals trail.now.steps) clauses.now }
+{
+    for clause in clauses {
+        if !trail.has_one(clause.lits.as_slice()) {
+            return false;
+        }
+    }
+    true
 }
 
 /// Whether a step from this place on has a literal that says a row.

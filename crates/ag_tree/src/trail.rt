@@ -1,10 +1,10 @@
 //! The truths that a search has given to atoms, in order.
-ghost use Rattle.std.specs.Prelude.{◌≡◌, ◌∷◌, ◌++◌, ◌<◌, ◌≤◌, ℕ, [], length, map, reverse, unwrap_or, All, OnOk, IfOk, MatchOption, false, slice_index_or};
+ghost use Rattle.std.specs.Prelude.{◌≡◌, ◌∷◌, ◌++◌, ◌<◌, ◌≤◌, ℕ, [], length, map, reverse, unwrap_or, All, Any, Contains, IsTrue, OnOk, IfOk, MatchOption, false, slice_index_or, ⊤};
 ghost use Rattle.std.specs.List.{filter_map};
 ghost use Rattle.ag_query.specs.declared.clauses.Lit.{Lit};
 ghost use Rattle.ag_tree.specs.declared.trail.Step.{Step};
 ghost use Rattle.ag_tree.specs.Facts.{HasNoneBothWays, Lacks};
-ghost use Rattle.ag_tree.specs.Trail.{IsBackTo, LooksAs, denial, literals, reasons};
+ghost use Rattle.ag_tree.specs.Trail.{HasReason, IsBackTo, LooksAs, denial, literals, reasons, truth_in};
 
 use ag_base::{List, OutOfMemory};
 use ag_query::Lit;
@@ -67,6 +67,30 @@ impl Trail {
         self.steps.len()
     }
 
+    /// The truth that the steps give to the atom.
+    pub fn value(&self, atom: u32) -> Option<bool>
+        ensures { result ≡ truth_in (literals self.now.steps) atom }
+    {
+        match self.values.get(atom as usize) {
+            Some(value) => *value,
+            None => None,
+        }
+    }
+
+    /// Whether a literal of the clause is true.
+    pub fn has_one(&self, clause: &[Lit]) -> bool
+        ensures { IsTrue result → Any (Contains (literals self.now.steps)) clause.now }
+    {
+        for lit in clause {
+            if let Some(holds) = self.value(lit.atom)
+                && holds == lit.holds
+            {
+                return true;
+            }
+        }
+        false
+    }
+
     pub fn push(&mut self, step: Step) -> Result<(), OutOfMemory>
         requires range { step.lit.atom < self.old.atoms }
         requires fresh { Lacks (literals self.old.steps) step.lit.atom }
@@ -85,6 +109,14 @@ impl Trail {
         ensures range { result.atom < self.now.atoms }
     {
         self.steps[place].lit
+    }
+
+    /// The line from which the step with so many steps before it was drawn.
+    pub fn reason(&self, place: usize) -> Option<u32>
+        requires { place < length self.now.steps }
+        ensures { MatchOption result ⊤ (HasReason self.now.steps) }
+    {
+        self.steps[place].reason
     }
 
     /// What the clause says.

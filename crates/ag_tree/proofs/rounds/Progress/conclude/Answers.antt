@@ -25,7 +25,7 @@ pub returns-clause-going : goal.returns-clause-going
 returns-clause-going c =
     let s = c.args.self.now in
     let line : Line = record { lits = c.deref.result.now; row = None } in
-    going_grown s c.add_line.new.kernel s.asked c.requires.going (adds_grown s.kernel c.add_line.new.kernel c.in_ok-number.number line c.in_ok-number.ensures.line)
+    going_grown s c.add_line.new.kernel s.asked s.guide c.requires.going (adds_grown s.kernel c.add_line.new.kernel c.in_ok-number.number line c.in_ok-number.ensures.line)
     (adds_begins s.kernel c.add_line.new.kernel c.in_ok-number.number line c.in_ok-number.ensures.line c.requires.going.begins)
 
 pub returns-clause-fact : goal.returns-clause-fact

@@ -21,10 +21,10 @@ one c = c.in_ok-push-2.ensures.items ∙ ap (λ (ns : List ℕ). ns ++ c.args.fa
 
 pub returns-clause-going : goal.returns-clause-going
 returns-clause-going c =
-    learned_going c.args.self.now c.args.fact c.add.new.self c.back.new.self c.in-Some.choice (record { lits = c.in_ok-make.field-0 }) c.push.new.self (c.args.self.now.literals + c.len.result) c.len-steps.result c.min-self.result c.in-Some.choice.atom c.push-2.new.self
+    learned_going c.args.self.now c.args.fact c.add.new.self c.back.new.self c.in-Some.choice (record { lits = c.in_ok-make.field-0 }) c.push.new.self (c.args.self.now.literals + c.len.result) c.len-steps.result c.min-self.result c.taken_back.new.self c.push-2.new.self
     c.requires.going c.requires.fact c.requires.some c.requires.few (added c) c.in-Some.ensures.steps c.in-Some.ensures.atoms (c.in_ok-make.ensures.lits ∙ c.deref-2.ensures.value) c.in_ok-push.ensures.ok (omega (arith, c.len.ensures, c.args.fact.lits.ok.0)) (one c)
 
 pub returns-clause-ready : goal.returns-clause-ready
 returns-clause-ready c =
-    learned_ready c.args.self.now c.args.fact c.add.new.self c.back.new.self c.in-Some.choice (record { lits = c.in_ok-make.field-0 }) c.push.new.self (c.args.self.now.literals + c.len.result) c.len-steps.result c.min-self.result c.in-Some.choice.atom c.push-2.new.self
+    learned_ready c.args.self.now c.args.fact c.add.new.self c.back.new.self c.in-Some.choice (record { lits = c.in_ok-make.field-0 }) c.push.new.self (c.args.self.now.literals + c.len.result) c.len-steps.result c.min-self.result c.taken_back.new.self c.push-2.new.self
     c.requires.going c.requires.fact c.in-Some.ensures.steps (c.in_ok-make.ensures.lits ∙ c.deref-2.ensures.value) c.in_ok-push.ensures.ok c.len-steps.ensures.value (one c)

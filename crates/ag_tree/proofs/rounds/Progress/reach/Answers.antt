@@ -6,16 +6,16 @@ use Rattle.ag_tree.proofs.Going.{going_asked, going_grown, rest_grown, line_agai
 use Rattle.ag_tree.proofs.rounds.Progress.reach.Goals as goal
 
 pub returns-in-Model-clause-going : goal.returns-in-Model-clause-going
-returns-in-Model-clause-going g c = going_grown c.settle.new.self c.decide.new.kernel _ c.in_ok-line.ensures.going c.in_ok-whole.ensures.grown c.in_ok-whole.ensures.sound.begins
+returns-in-Model-clause-going g c = going_grown c.settle.new.self c.decide.new.kernel _ _ c.in_ok-line.ensures.going c.in_ok-whole.ensures.grown c.in_ok-whole.ensures.sound.begins
 
 pub returns-in-Line-clause-going : goal.returns-in-Line-clause-going
-returns-in-Line-clause-going g c = going_grown c.settle.new.self c.decide.new.kernel _ c.in_ok-line.ensures.going c.in_ok-whole.ensures.grown c.in_ok-whole.ensures.sound.begins
+returns-in-Line-clause-going g c = going_grown c.settle.new.self c.decide.new.kernel _ _ c.in_ok-line.ensures.going c.in_ok-whole.ensures.grown c.in_ok-whole.ensures.sound.begins
 
 pub returns-clause-going : goal.returns-clause-going
-returns-clause-going g c = going_asked c.settle.new.self c.len-self.result c.in_ok-line.ensures.going
+returns-clause-going g c = going_asked c.settle.new.self c.len-self.result _ c.in_ok-line.ensures.going
 
 pub returns-2-clause-going : goal.returns-2-clause-going
-returns-2-clause-going g c = going_grown c.settle.new.self c.decide.new.kernel _ c.in_ok-line.ensures.going c.in_ok-whole.ensures.grown c.in_ok-whole.ensures.sound.begins
+returns-2-clause-going g c = going_grown c.settle.new.self c.decide.new.kernel _ _ c.in_ok-line.ensures.going c.in_ok-whole.ensures.grown c.in_ok-whole.ensures.sound.begins
 
 pub returns-in-Model-clause-reaches : goal.returns-in-Model-clause-reaches
 returns-in-Model-clause-reaches g c =

@@ -3,7 +3,7 @@ use Rattle.ag_kernel.specs.declared.line.KernelFault.{KernelFault}
 use Rattle.ag_kernel.specs.Faults.{IsCause, first_missing}
 use Rattle.ag_kernel.specs.Rules.{CanConclude}
 use Rattle.ag_tree.proofs.Drawing.{none_missing}
-use Rattle.ag_tree.proofs.propagation.add_line.Goals as goal
+use Rattle.ag_tree.proofs.propagation.along.Goals as goal
 
 pub unreachable-requires : goal.unreachable-requires
 unreachable-requires c =
