@@ -1,0 +1,9 @@
+pub mod Entries
+pub mod Machine
+pub mod Tickets
+pub mod Store
+pub mod Answers
+pub mod Notes
+pub mod Inside
+pub mod Planned
+pub mod Laws
