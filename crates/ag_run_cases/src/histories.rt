@@ -1,8 +1,8 @@
 //! The history of a check, entry by entry.
 use crate::runs::MODEL;
 use ag_base::{List, MemFolder, MemSink, MemSource, Text};
+use ag_board::{Call, Reply};
 use ag_top::agree;
-use ag_top::history::{Call, Reply};
 use std::test::Fail;
 
 fn call_word(call: &Call) -> &'static str {

@@ -46,13 +46,13 @@ premises_true kept unkept d (Some run) v n en plain w e f m =
 some_depth : (l : Limits) → 1 ≤ l.depth
 some_depth l = l.in_range.some_depth
 
-pub claim_within : (d : ProblemDraft) (o : Option Run) → Found d o → (l : Limits) → IsWithin l (claim_verdict_of o)
+pub claim_within : (d : ProblemDraft) (o : Option Run) → Found d o → (l : Limits) → IsWithin l d (claim_verdict_of o)
 claim_within d None f l = (omega arith, some_depth l)
-claim_within d (Some run) f l = subst (λ (r : Run). IsWithin l (Refuted r)) (sym f.found.1) (omega arith, some_depth l)
+claim_within d (Some run) f l = subst (λ (r : Run). IsWithin l d (Refuted r)) (sym f.found.1) (omega arith, some_depth l)
 
-pub premises_within : (d : ProblemDraft) (o : Option Run) (v : Verdict) (n : ℕ) → Found d o → MatchOption o (v ≡ Inconsistent) (λ run. (i : Instant) → run ≡ single i → v ≡ Consistent (staying n i)) → (l : Limits) → IsWithin l v
-premises_within d None v n f m l = subst (IsWithin l) (sym m) tt
-premises_within d (Some run) v n f m l = subst (IsWithin l) (sym (m f.found.0 f.found.1)) tt
+pub premises_within : (d : ProblemDraft) (o : Option Run) (v : Verdict) (n : ℕ) → Found d o → MatchOption o (v ≡ Inconsistent) (λ run. (i : Instant) → run ≡ single i → v ≡ Consistent (staying n i)) → (l : Limits) → IsWithin l d v
+premises_within d None v n f m l = subst (IsWithin l d) (sym m) tt
+premises_within d (Some run) v n f m l = subst (IsWithin l d) (sym (m f.found.0 f.found.1)) tt
 
 empty_by : (ns : List ℤ) → length ns ≡ 0 → ns ≡ []
 empty_by [] e = refl

@@ -1,16 +1,17 @@
 -- The lemmas of this crate.
-mod Same
-mod Lines
-mod Stores
-mod Steps
 mod Tries
 mod Decisions
+mod Keeping
 mod Serving
-mod Telling
+mod Deciding
 mod Staging
+mod Telling
+mod Sessions
+mod Publishing
 mod Checking
+mod Turns
 mod Reading
-mod Tops
 mod Prints
 mod OnePrint
 mod EachPrint
+mod Tops

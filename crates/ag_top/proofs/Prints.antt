@@ -3,7 +3,7 @@ use Rattle.std.proofs.Common.{◌≡◌, ◌⊎◌, ◌≤◌, [], ℕ, List, le
 use Rattle.ag_top.specs.declared.words.Order.{Order}
 use Rattle.ag_top.specs.declared.words.Order.TheVariants as orders
 use Rattle.ag_top.specs.Commands.{Grows}
-use Rattle.ag_top.specs.Entries.{PlainEntry}
+use Rattle.ag_board.specs.Entries.{PlainEntry}
 use Rattle.ag_top.specs.Outcome.{IsRefusal, IsBroken}
 use Rattle.ag_top.specs.Printing.{IsTextPartlyPrinted, IsPrintRefusal}
 use Rattle.ag_top.specs.Stages.{Partly}

@@ -1,9 +1,10 @@
--- What is told of lines that are true.
+-- What a report tells is true of what was listed.
 use Rattle.std.proofs.Common.{◌≡◌, ◌∙◌, ◌<◌, ◌∷◌, [], ℕ, zero, suc, List, length, map, Option, Some, None, refl, sym, ap, subst, arith, get_or}
 use Rattle.std.proofs.lemmas.List.{length-map}
 use Rattle.std.specs.Prelude.{All, Any, Contains, IfSome}
-use Rattle.std.specs.List.{AllByRecursion}
+use Rattle.std.specs.List.{AllByRecursion, flat_map}
 use Rattle.std.proofs.lemmas.List.Elements.{All-from_recursion, recursion_from_All}
+use Rattle.ag_base.specs.declared.limits.Limits.{Limits}
 use Rattle.ag_stream.specs.declared.problem.ProblemDraft.{ProblemDraft}
 use Rattle.ag_verdict.specs.declared.key.Key.{Key}
 use Rattle.ag_verdict.specs.declared.key.Obligation.{Obligation}
@@ -14,12 +15,22 @@ use Rattle.ag_small.specs.Rules.{IsWellFormed}
 use Rattle.ag_small.specs.Numbered.{obligations_of}
 use Rattle.ag_small.specs.Named.{IsTrueOfNamed}
 use Rattle.ag_small.specs.Carried.{VerdictsCarryOver}
-use Rattle.ag_top.specs.Machine.{Line}
-use Rattle.ag_top.specs.Store.{IsTrueLine, told_of}
-use Rattle.ag_top.specs.Commands.{IsToldOf, listed_of, sought}
+use Rattle.ag_board.specs.Entries.{reported}
+use Rattle.ag_board.specs.Machine.{State, Line, lines}
+use Rattle.ag_board.specs.Laws.{AreTrue}
+use Rattle.ag_top.specs.Commands.{IsToldOf, listed_of}
+use Rattle.ag_top.specs.Keeping.{listed}
+use Rattle.ag_top.proofs.Keeping.{last_has}
 
 abbrev pair_of : Line → Key × ProblemDraft
 pair_of l = (l.key, l.problem)
+
+abbrev IsTrueLine : Line → Type 0
+IsTrueLine l = IfSome l.verdict (IsTrueOf l.problem)
+
+-- the keys of lines, each with its verdict or none
+abbrev pub told_of : List Line → List (Key × Option Verdict)
+told_of ls = map {B = Key × Option Verdict} (λ l. (l.key, l.verdict)) ls
 
 -- what is found in a list is found behind one more
 later : {A : Type 0} (P : A → Type 0) (x : A) (xs : List A) → Any P xs → Any P (x ∷ xs)
@@ -41,11 +52,15 @@ each_told : (ls : List Line) → AllByRecursion IsTrueLine ls → AllByRecursion
 each_told [] h = tt
 each_told (l ∷ ls) h = (told_first l.key l.problem l.verdict (map pair_of ls) h.0, all_told_more (l.key, l.problem) (map pair_of ls) (told_of ls) (each_told ls h.1))
 
-pub told_true : (ls : List Line) → All IsTrueLine ls → All (IsToldOf (map (λ (l : Line). (l.key, l.problem)) ls)) (told_of ls)
-told_true ls h = All-from_recursion (IsToldOf (map pair_of ls)) (told_of ls) (each_told ls (recursion_from_All IsTrueLine ls h))
+same_lines : (a b : ℕ) (x y : List (Key × Option Verdict)) → reported a x ≡ reported b y → x ≡ y
+same_lines a b x y e = cc
 
-abbrev pub pairs_of : List Obligation → List (Key × ProblemDraft)
-pairs_of os = map {B = Key × ProblemDraft} (λ o. (o.key, o.problem)) os
+-- what is reported of a state whose verdicts are true
+pub reported_true : (s : State) (list : List (Key × ProblemDraft)) (n : ℕ) (told : List (Key × Option Verdict)) → AreTrue s → listed s ≡ list → reported n told ≡ reported (length s.revisions) (told_of (lines s)) → All (IsToldOf list) told
+reported_true s list n told true keys e =
+    let own : AllByRecursion (IsToldOf (map pair_of (lines s))) (told_of (lines s)) = each_told (lines s) (last_has IsTrueLine s.revisions (recursion_from_All IsTrueLine (flat_map (λ r. r) s.revisions) true)) in
+    let here : AllByRecursion (IsToldOf list) (told_of (lines s)) = subst (λ (ks : List (Key × ProblemDraft)). AllByRecursion (IsToldOf ks) (told_of (lines s))) keys own in
+    subst (λ (ls : List (Key × Option Verdict)). All (IsToldOf list) ls) (sym (same_lines n (length s.revisions) told (told_of (lines s)) e)) (All-from_recursion (IsToldOf list) (told_of (lines s)) here)
 
 -- an obligation behind a listed pair
 obligation_of : (os : List Obligation) (k : Key × ProblemDraft) (n : ℕ) → n < length os → get_or (map {B = Key × ProblemDraft} (λ o. (o.key, o.problem)) os) n k ≡ k
@@ -58,8 +73,9 @@ obligation_of (o ∷ os) k (suc n) l e =
     (r.0, (suc c.0, (let m = c.1 in omega arith), c.2), r.2, r.3)
 
 -- a verdict that is told is true of what its key says of the package
-pub told_named : VerdictsCarryOver → (p : Package) → IsWellFormed p → (line : Key × Option Verdict) → IsToldOf (listed_of p) line → IfSome line.1 (λ v. IsTrueOfNamed p sought line.0 v)
-told_named carry p w (key, None) h = tt
-told_named carry p w (key, Some v) h =
-    let r = obligation_of (obligations_of p sought) h.1 h.0 (let a = length-map {B = Key × ProblemDraft} (obligations_of p sought) (λ (o : Obligation). (o.key, o.problem)) in let l = h.2 in omega (arith, a, l)) h.3 in
-    subst (λ (k : Key). IsTrueOfNamed p sought k v) (r.2 ∙ h.4.0) (carry p sought r.0 v w r.1 (subst (λ (d : ProblemDraft). IsTrueOf d v) (sym r.3) h.4.1))
+pub told_named : VerdictsCarryOver → (l : Limits) (p : Package) → IsWellFormed p → (line : Key × Option Verdict) → IsToldOf (listed_of l p) line → IfSome line.1 (λ v. IsTrueOfNamed p l.consistency line.0 v)
+told_named carry l p w (key, None) h = tt
+told_named carry l p w (key, Some v) h =
+    let n : ℕ = l.consistency in
+    let r = obligation_of (obligations_of p n) h.1 h.0 (let a = length-map {B = Key × ProblemDraft} (obligations_of p n) (λ (o : Obligation). (o.key, o.problem)) in let b = h.2 in omega (arith, a, b)) h.3 in
+    subst (λ (k : Key). IsTrueOfNamed p n k v) (r.2 ∙ h.4.0) (carry p n r.0 v w r.1 (subst (λ (d : ProblemDraft). IsTrueOf d v) (sym r.3) h.4.1))

@@ -1,9 +1,7 @@
 -- The definitions of this crate.
-pub mod Entries
-pub mod Machine
-pub mod Store
 pub mod Trying
 pub mod Commands
+pub mod Keeping
 pub mod Stages
 pub mod Sessions
 pub mod Words

@@ -8,38 +8,41 @@ use Rattle.ag_small.specs.Reads.{Reads}
 use Rattle.ag_small.specs.Named.{IsTrueOfNamed}
 use Rattle.ag_small.specs.Places.{IsPlaceIn}
 use Rattle.ag_top.specs.Refusals.{not_built}
-use Rattle.ag_top.specs.Entries.{PlainEntry}
-use Rattle.ag_top.specs.Machine.{start, state_after, IsLegal, undecided, tally}
-use Rattle.ag_top.specs.Store.{listed}
+use Rattle.ag_base.specs.declared.limits.Limits.{Limits}
+use Rattle.ag_board.specs.Entries.{PlainEntry}
+use Rattle.ag_board.specs.Machine.{start, state_after, IsLegal, undecided, tally}
+use Rattle.ag_top.specs.declared.command.Command.{Command}
+use Rattle.ag_top.specs.Keeping.{listed}
 use Rattle.ag_top.specs.Stages.{Partly}
 use Rattle.ag_top.specs.Printing.{IsPrintBroken}
 use Rattle.ag_top.specs.Words.{IsCheck, IsCommand, IsTextOf, usage_text, too_long_text}
-use Rattle.ag_top.specs.Commands.{Command, check, Said, Accepted, AllSettled, Told, Shut, text_of, listed_of, sought, Serves, IsBegun, IsToldOf, Grows, status_by}
+use Rattle.ag_top.specs.Commands.{starting, progress_all, editing, IsUsual, check, Said, Accepted, AllSettled, Told, Shut, text_of, listed_of, Serves, IsBegun, IsToldOf, Grows, status_by}
 
 -- the replies, one after another
-abbrev pub text_all : Package → List Said → List ℕ
-text_all p said = flat_map (text_of p) said
+abbrev pub text_all : Limits → List Said → List ℕ
+text_all l said = flat_map (text_of l) said
 
 -- each verdict that is told is true of its key's problem, and of what the key says of the package by name
-abbrev pub IsTruly : Package → Said → Type 0
-IsTruly p (Accepted r) = Unit {0}
-IsTruly p (AllSettled n) = Unit {0}
-IsTruly p (Told n lines) = All (IsToldOf (listed_of p)) lines × All (λ line. IfSome line.1 (λ v. IsTrueOfNamed p sought line.0 v)) lines
-IsTruly p (Shut t) = Unit {0}
+abbrev pub IsTruly : Limits → Said → Type 0
+IsTruly l (Accepted r) = Unit {0}
+IsTruly l (AllSettled n) = Unit {0}
+IsTruly l (Told p n lines) =
+    All (IsToldOf (listed_of l p)) lines × All (λ line. IfSome line.1 (λ v. IsTrueOfNamed p l.consistency line.0 v)) lines
+IsTruly l (Shut t) = Unit {0}
 
 -- The headline: the replies are those of one legal history that holds the commands once each; what they tell is true; after
 -- the close each obligation has a verdict, and no other key has; the status is that of the verdicts
-pub record IsChecked (p : Package) (history : List PlainEntry) (said : List Said) (status : Status) : Type 0 where
+pub record IsChecked (l : Limits) (p : Package) (history : List PlainEntry) (said : List Said) (status : Status) : Type 0 where
   pub legal : IsLegal history
-  pub commands : Serves (listed_of p) 0 check history said
-  pub truly : All (IsTruly p) said
-  pub keys : listed (state_after start history) ≡ listed_of p
+  pub commands : Serves (editing l) (starting p) check history said
+  pub truly : All (IsTruly l) said
+  pub keys : listed (state_after start history) ≡ listed_of l p
   pub decided : undecided (state_after start history) ≡ 0
   pub by_verdicts : status ≡ status_by (tally (state_after start history))
 
 -- A check that was cut short: the first commands were served, and what is told of them is true; the entries behind theirs are
 -- those with which the next command was begun.
-pub record IsCutShort (p : Package) (history : List PlainEntry) (said : List Said) : Type 0 where
+pub record IsCutShort (l : Limits) (p : Package) (history : List PlainEntry) (said : List Said) : Type 0 where
   pub legal : IsLegal history
   pub done : List Command
   pub next : Command
@@ -48,35 +51,35 @@ pub record IsCutShort (p : Package) (history : List PlainEntry) (said : List Sai
   pub served : List PlainEntry
   pub begun : List PlainEntry
   pub whole : history ≡ served ++ begun
-  pub commands : Serves (listed_of p) 0 done served said
-  pub truly : All (IsTruly p) said
-  pub opening : IsBegun (listed_of p) next begun
+  pub commands : Serves (editing l) (starting p) done served said
+  pub truly : All (IsTruly l) said
+  pub opening : IsBegun (editing l) (progress_all (starting p) done) next begun
 
 -- the check of a package was answered, and what is said of it was written
-pub record IsCheckAnswer (p : Package) (history : List PlainEntry) (status : Status) (before now : Option (List ℕ)) : Type 0 where
+pub record IsCheckAnswer (l : Limits) (p : Package) (history : List PlainEntry) (status : Status) (before now : Option (List ℕ)) : Type 0 where
   pub said : List Said
-  pub checked : IsChecked p history said status
-  pub written : Grows before now (text_all p said)
+  pub checked : IsChecked l p history said status
+  pub written : Grows before now (text_all l said)
 
 -- it was cut short, and what is said of the first commands was written
-pub record IsCheckCut (p : Package) (history : List PlainEntry) (before now : Option (List ℕ)) : Type 0 where
+pub record IsCheckCut (l : Limits) (p : Package) (history : List PlainEntry) (before now : Option (List ℕ)) : Type 0 where
   pub said : List Said
-  pub cut : IsCutShort p history said
-  pub written : Grows before now (text_all p said)
+  pub cut : IsCutShort l p history said
+  pub written : Grows before now (text_all l said)
 
 -- the first commands were served, and what is said of the last of them was written in part
-pub record IsCheckBroken (p : Package) (history : List PlainEntry) (before now : Option (List ℕ)) : Type 0 where
+pub record IsCheckBroken (l : Limits) (p : Package) (history : List PlainEntry) (before now : Option (List ℕ)) : Type 0 where
   pub legal : IsLegal history
   pub done : List Command
   pub ahead : List Command
   pub all : check ≡ done ++ ahead
   pub said : List Said
   pub last : Said
-  pub commands : Serves (listed_of p) 0 done history (said ++ last ∷ [])
-  pub truly : All (IsTruly p) (said ++ last ∷ [])
+  pub commands : Serves (editing l) (starting p) done history (said ++ last ∷ [])
+  pub truly : All (IsTruly l) (said ++ last ∷ [])
   pub taken : ℕ
-  pub short : taken < length (text_of p last)
-  pub written : Grows before now (text_all p said ++ take taken (text_of p last))
+  pub short : taken < length (text_of l last)
+  pub written : Grows before now (text_all l said ++ take taken (text_of l last))
 
 -- no entry was made, and nothing was written
 pub record IsNothing (history : List PlainEntry) (before now : Option (List ℕ)) : Type 0 where
@@ -106,7 +109,9 @@ pub record IsAnswer (words : List (List ℕ)) (left : Option (List ℕ)) (histor
   pub few : length text ≤ 4194304
   pub declared : Package
   pub reads : Reads text declared
-  pub answer : IsCheckAnswer declared history status before now
+  pub limits : Limits
+  pub usual : IsUsual limits
+  pub answer : IsCheckAnswer limits declared history status before now
 
 -- what was read is a package, whose check was cut short
 pub record IsUnfinished (words : List (List ℕ)) (left : Option (List ℕ)) (history : List PlainEntry) (before now : Option (List ℕ)) : Type 0 where
@@ -116,19 +121,21 @@ pub record IsUnfinished (words : List (List ℕ)) (left : Option (List ℕ)) (hi
   pub few : length text ≤ 4194304
   pub declared : Package
   pub reads : Reads text declared
-  pub cut : IsCheckCut declared history before now
+  pub limits : Limits
+  pub usual : IsUsual limits
+  pub cut : IsCheckCut limits declared history before now
 
 -- a text is a package, whose check was answered
-pub record IsTextAnswer (text : List ℕ) (history : List PlainEntry) (status : Status) (before now : Option (List ℕ)) : Type 0 where
+pub record IsTextAnswer (l : Limits) (text : List ℕ) (history : List PlainEntry) (status : Status) (before now : Option (List ℕ)) : Type 0 where
   pub declared : Package
   pub reads : Reads text declared
-  pub answer : IsCheckAnswer declared history status before now
+  pub answer : IsCheckAnswer l declared history status before now
 
 -- a text is a package, whose check was cut short
-pub record IsTextCut (text : List ℕ) (history : List PlainEntry) (before now : Option (List ℕ)) : Type 0 where
+pub record IsTextCut (l : Limits) (text : List ℕ) (history : List PlainEntry) (before now : Option (List ℕ)) : Type 0 where
   pub declared : Package
   pub reads : Reads text declared
-  pub cut : IsCheckCut declared history before now
+  pub cut : IsCheckCut l declared history before now
 
 -- a text is no package of the grammar, and that was written, with a place in the text
 pub record IsTextRefused (text : List ℕ) (history : List PlainEntry) (before now : Option (List ℕ)) : Type 0 where
@@ -139,9 +146,9 @@ pub record IsTextRefused (text : List ℕ) (history : List PlainEntry) (before n
   pub empty : history ≡ []
 
 -- of what a text gives only the first bytes were written: of its check, or of its refusal
-abbrev pub IsTextBroken : List ℕ → List PlainEntry → Option (List ℕ) → Option (List ℕ) → Type 0
-IsTextBroken text history before now =
-    ((p : Package) × Reads text p × IsCheckBroken p history before now)
+abbrev pub IsTextBroken : Limits → List ℕ → List PlainEntry → Option (List ℕ) → Option (List ℕ) → Type 0
+IsTextBroken l text history before now =
+    ((p : Package) × Reads text p × IsCheckBroken l p history before now)
     ⊎ (((p : Package) → Reads text p → ⊥) × ((place : Place) × IsPlaceIn text place × Partly (not_built place) before now) × (history ≡ []))
 
 -- of what a check of the source gives only the first bytes were written
@@ -150,7 +157,7 @@ pub record IsReadBroken (words : List (List ℕ)) (left : Option (List ℕ)) (hi
   pub text : List ℕ
   pub read : IsTextOf left text
   pub cause : ((4194304 < length text) × Partly too_long_text before now × (history ≡ []))
-      ⊎ ((length text ≤ 4194304) × IsTextBroken text history before now)
+      ⊎ ((length text ≤ 4194304) × ((l : Limits) × IsUsual l × IsTextBroken l text history before now))
 
 -- of what the words ask for only the first bytes were written
 abbrev pub IsBroken : List (List ℕ) → Option (List ℕ) → List PlainEntry → Option (List ℕ) → Option (List ℕ) → Type 0

@@ -13,7 +13,7 @@ use Rattle.ag_aadl.specs.Files.{IsFile, IsFirstWrong}
 use Rattle.ag_print.specs.Annexes.{Stated, PackagesState, IsAnnexRefused}
 use Rattle.ag_print.specs.Printed.{IsCanonical}
 use Rattle.ag_top.specs.Commands.{Grows}
-use Rattle.ag_top.specs.Entries.{PlainEntry}
+use Rattle.ag_board.specs.Entries.{PlainEntry}
 use Rattle.ag_top.specs.Refusals.{refusal_text}
 use Rattle.ag_top.specs.Stages.{Partly}
 use Rattle.ag_top.specs.Words.{IsPrint, IsTextOf, too_long_text}

@@ -1,74 +1,89 @@
--- What it is to serve commands, from one store and one text to the next.
+-- What it is to serve commands, from what a session has left to what it leaves then.
 use Rattle.std.specs.Prelude.{◌≡◌, ◌<◌, ◌≤◌, ◌⊎◌, ◌++◌, ◌∷◌, [], ℕ, List, Option, Result, Ok, Err, length, take}
 use Rattle.ag_base.specs.declared.status.Status.{Status}
 use Rattle.ag_base.specs.declared.status.Status.TheVariants as statuses
-use Rattle.ag_top.specs.declared.history.Tally.{Tally}
-use Rattle.ag_top.specs.declared.cut.Cut.{Cut}
-use Rattle.ag_top.specs.declared.cut.Cut.TheVariants as cuts
 use Rattle.ag_base.specs.Outside.{Rose}
 use Rattle.ag_stream.specs.declared.problem.ProblemDraft.{ProblemDraft}
-use Rattle.ag_small.specs.declared.package.Package.{Package}
-use Rattle.ag_top.specs.Entries.{PlainEntry, claim, work}
-use Rattle.ag_top.specs.Machine.{start}
-use Rattle.ag_top.specs.Store.{Kept, entry}
-use Rattle.ag_top.specs.Commands.{Command, Said, Answers, IsBegun, Grows, IsDecision, IsSettling, listed_of, text_of, revision_after, status_by}
+use Rattle.ag_board.specs.declared.entry.Tally.{Tally}
+use Rattle.ag_board.specs.declared.entry.GivenBack.{GivenBack}
+use Rattle.ag_board.specs.Entries.{PlainEntry, claim, work, give_back, given_back}
+use Rattle.ag_board.specs.Store.{entry}
+use Rattle.ag_top.specs.declared.command.Command.{Command}
+use Rattle.ag_top.specs.declared.cut.Cut.{Cut}
+use Rattle.ag_top.specs.declared.cut.Cut.TheVariants as cuts
+use Rattle.ag_top.specs.Commands.{Setting, Progress, progress_after, Said, Answers, IsBegun, Grows, IsDecision, IsSettling, text_of, status_by}
 
 -- the history has grown by a decision
-pub record DecidesOne (old new : List PlainEntry) : Type 0 where
+pub record DecidesOne (g : Setting) (old new : List PlainEntry) : Type 0 where
   pub claimed : PlainEntry
   pub put : PlainEntry
-  pub decision : IsDecision claimed put
+  pub decision : IsDecision g claimed put
   pub whole : new ≡ old ++ claimed ∷ put ∷ []
 
 -- it has grown by decisions
-abbrev pub AreDecisions : List PlainEntry → Type 0
-AreDecisions [] = Unit {0}
-AreDecisions (a ∷ []) = ⊥
-AreDecisions (a ∷ b ∷ es) = IsDecision a b × AreDecisions es
+abbrev pub AreDecisions : Setting → List PlainEntry → Type 0
+AreDecisions g [] = Unit {0}
+AreDecisions g (a ∷ []) = ⊥
+AreDecisions g (a ∷ b ∷ es) = IsDecision g a b × AreDecisions g es
 
-pub record Decides (old new : List PlainEntry) : Type 0 where
+pub record Decides (g : Setting) (old new : List PlainEntry) : Type 0 where
   pub entries : List PlainEntry
-  pub decisions : AreDecisions entries
+  pub decisions : AreDecisions g entries
   pub whole : new ≡ old ++ entries
 
 -- it has grown by the entries that settle
-pub record Settles (old new : List PlainEntry) : Type 0 where
+pub record Settles (g : Setting) (old new : List PlainEntry) : Type 0 where
   pub entries : List PlainEntry
-  pub settling : IsSettling entries
+  pub settling : IsSettling g entries
   pub whole : new ≡ old ++ entries
 
--- at most one entry, of a claim that handed out a problem
-abbrev pub IsClaimedOrNone : List PlainEntry → Type 0
-IsClaimedOrNone [] = Unit {0}
-IsClaimedOrNone (e ∷ []) = (number : ℕ) × (revision : ℕ) × (problem : ProblemDraft) × (e ≡ entry claim (work number revision problem))
-IsClaimedOrNone (a ∷ b ∷ es) = ⊥
+-- a claim that handed out a problem, and came back without a verdict
+pub record IsReturned (g : Setting) (a b : PlainEntry) : Type 0 where
+  pub number : ℕ
+  pub revision : ℕ
+  pub problem : ProblemDraft
+  pub how : GivenBack
+  pub claimed : a ≡ entry g.seat claim (work number revision problem)
+  pub returned : b ≡ entry g.seat (give_back number) (given_back how)
+
+-- no entry, or such a claim
+abbrev pub IsGivenUp : Setting → List PlainEntry → Type 0
+IsGivenUp g [] = Unit {0}
+IsGivenUp g (a ∷ []) = ⊥
+IsGivenUp g (a ∷ b ∷ []) = IsReturned g a b
+IsGivenUp g (a ∷ b ∷ e ∷ es) = ⊥
 
 -- the history has grown by at most such a claim
-pub record ClaimsOnceAtMost (old new : List PlainEntry) : Type 0 where
+pub record GivesUp (g : Setting) (old new : List PlainEntry) : Type 0 where
   pub entries : List PlainEntry
-  pub at_most : IsClaimedOrNone entries
+  pub given_up : IsGivenUp g entries
   pub whole : new ≡ old ++ entries
 
 -- it has grown by decisions, and then by at most such a claim
-pub record SettlesPartly (old new : List PlainEntry) : Type 0 where
+pub record SettlesPartly (g : Setting) (old new : List PlainEntry) : Type 0 where
   pub middle : List PlainEntry
-  pub decides : Decides old middle
-  pub claims : ClaimsOnceAtMost middle new
+  pub decides : Decides g old middle
+  pub gives_up : GivesUp g middle new
+
+-- what a session has left so far: the history of its store, and what was written, where that is told
+pub record Output : Type 0 where
+  pub history : List PlainEntry
+  pub written : Option (List ℕ)
 
 -- a command was answered, and what is said of it was written
-pub record Stage (p : Package) (n : ℕ) (c : Command) (old new : Kept) (before now : Option (List ℕ)) : Type 0 where
+pub record Stage (g : Setting) (s : Progress) (c : Command) (old new : Output) : Type 0 where
   pub entries : List PlainEntry
   pub said : Said
   pub history : new.history ≡ old.history ++ entries
-  pub answers : Answers (listed_of p) n c entries said
-  pub written : Grows before now (text_of p said)
+  pub answers : Answers g s c entries said
+  pub written : Grows old.written new.written (text_of g.limits said)
 
 -- a command was begun, and nothing was written
-pub record Begins (p : Package) (n : ℕ) (c : Command) (old new : Kept) (before now : Option (List ℕ)) : Type 0 where
+pub record Begins (g : Setting) (s : Progress) (c : Command) (old new : Output) : Type 0 where
   pub entries : List PlainEntry
-  pub begun : IsBegun (listed_of p) c entries
+  pub begun : IsBegun g s c entries
   pub history : new.history ≡ old.history ++ entries
-  pub same : now ≡ before
+  pub same : new.written ≡ old.written
 
 -- the first bytes of a text were written, but not all
 pub record Partly (text : List ℕ) (before now : Option (List ℕ)) : Type 0 where
@@ -83,44 +98,42 @@ Writes text (Err cuts.Write) before now = Partly text before now
 Writes text (Err cuts.Memory) before now = ⊥
 
 -- a command was answered, and the first bytes of what is said of it were written
-pub record Broken (p : Package) (n : ℕ) (c : Command) (old new : Kept) (before now : Option (List ℕ)) : Type 0 where
+pub record Broken (g : Setting) (s : Progress) (c : Command) (old new : Output) : Type 0 where
   pub entries : List PlainEntry
   pub said : Said
   pub history : new.history ≡ old.history ++ entries
-  pub answers : Answers (listed_of p) n c entries said
-  pub partly : Partly (text_of p said) before now
+  pub answers : Answers g s c entries said
+  pub partly : Partly (text_of g.limits said) old.written new.written
 
 -- a command was cut short: for want of memory when it was begun, by the sink when it was answered
-abbrev pub IsCut : Cut → Package → ℕ → Command → Kept → Kept → Option (List ℕ) → Option (List ℕ) → Type 0
-IsCut cuts.Memory p n c old new before now = Begins p n c old new before now
-IsCut cuts.Write p n c old new before now = Broken p n c old new before now
+abbrev pub IsCut : Cut → Setting → Progress → Command → Output → Output → Type 0
+IsCut cuts.Memory g s c old new = Begins g s c old new
+IsCut cuts.Write g s c old new = Broken g s c old new
 
 -- how a command ended
-abbrev pub Served : {A : Type 0} → Package → ℕ → Command → Result A Cut → Kept → Kept → Option (List ℕ) → Option (List ℕ) → Type 0
-Served p n c (Ok a) old new before now = Stage p n c old new before now
-Served p n c (Err cut) old new before now = IsCut cut p n c old new before now
+abbrev pub Served : {A : Type 0} → Setting → Progress → Command → Result A Cut → Output → Output → Type 0
+Served g s c (Ok a) old new = Stage g s c old new
+Served g s c (Err cut) old new = IsCut cut g s c old new
 
 -- the commands were answered in order
-abbrev pub RunsAll : Package → ℕ → List Command → Kept → Kept → Option (List ℕ) → Option (List ℕ) → Type 0
-RunsAll p n [] old new before now = (new ≡ old) × (now ≡ before)
-RunsAll p n (c ∷ cs) old new before now =
-    (middle : Kept) × (between : Option (List ℕ)) × Stage p n c old middle before between × RunsAll p (revision_after n c) cs middle new between now
+abbrev pub RunsAll : Setting → Progress → List Command → Output → Output → Type 0
+RunsAll g s [] old new = new ≡ old
+RunsAll g s (c ∷ cs) old new = (middle : Output) × Stage g s c old middle × RunsAll g (progress_after s c) cs middle new
 
 -- the first of the commands were answered in order, and the next one was cut short
-abbrev pub CutIn : Cut → Package → ℕ → List Command → Kept → Kept → Option (List ℕ) → Option (List ℕ) → Type 0
-CutIn cut p n [] old new before now = ⊥
-CutIn cut p n (c ∷ cs) old new before now =
-    IsCut cut p n c old new before now
-    ⊎ ((middle : Kept) × (between : Option (List ℕ)) × Stage p n c old middle before between × CutIn cut p (revision_after n c) cs middle new between now)
+abbrev pub CutIn : Cut → Setting → Progress → List Command → Output → Output → Type 0
+CutIn cut g s [] old new = ⊥
+CutIn cut g s (c ∷ cs) old new =
+    IsCut cut g s c old new ⊎ ((middle : Output) × Stage g s c old middle × CutIn cut g (progress_after s c) cs middle new)
 
 -- how the commands ended
-abbrev pub ServedAll : {A : Type 0} → Package → ℕ → List Command → Result A Cut → Kept → Kept → Option (List ℕ) → Option (List ℕ) → Type 0
-ServedAll p n cs (Ok a) old new before now = RunsAll p n cs old new before now
-ServedAll p n cs (Err cut) old new before now = CutIn cut p n cs old new before now
+abbrev pub ServedAll : {A : Type 0} → Setting → Progress → List Command → Result A Cut → Output → Output → Type 0
+ServedAll g s cs (Ok a) old new = RunsAll g s cs old new
+ServedAll g s cs (Err cut) old new = CutIn cut g s cs old new
 
--- the store before its first call
-abbrev pub fresh : Kept
-fresh = record { state = start; history = [] }
+-- nothing has come yet
+abbrev pub silent : Option (List ℕ) → Output
+silent written = record { history = []; written = written }
 
 -- the sink's count of faults: it rose where the sink ended the call, and is as it was elsewhere
 abbrev pub CountsFault : {A : Type 0} → Result A Cut → ℕ → ℕ → Type 0

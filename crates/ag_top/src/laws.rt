@@ -1,8 +1,6 @@
-//! That the print of a text has exactly one answer, and that the store compares problems by their values.
-ghost use Rattle.std.specs.Prelude.{◌≡◌, ◌⊎◌, ◌↔◌, ℕ, List, IsTrue};
+//! That the print of a text has exactly one answer.
+ghost use Rattle.std.specs.Prelude.{◌≡◌, ◌⊎◌, ℕ, List};
 ghost use Rattle.ag_base.specs.declared.place.Refusal.{Refusal};
-ghost use Rattle.ag_stream.specs.declared.problem.ProblemDraft.{ProblemDraft};
-ghost use Rattle.ag_top.specs.Machine.{same_problem};
 ghost use Rattle.ag_top.specs.Printing.{IsPrinted, IsPrintRefused};
 
 /// A text has one canonical text at most and gets one refusal at most, and never both.
@@ -29,8 +27,3 @@ pub fn one_of_the_two()
     ag_print::canonical_rereads();
     ag_print::annexes_reread();
 }
-
-/// The store takes two problems for the same exactly where they are equal.
-pub fn problems_are_compared()
-    ensures { (p q : ProblemDraft) → IsTrue (same_problem p q) ↔ (p ≡ q) }
-{}

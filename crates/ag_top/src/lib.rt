@@ -5,16 +5,16 @@
 //! of what was read. Start at `agree` in top.rt, and at specs/Outcome.antt and specs/Printing.antt.
 #![tactic(auto)]
 
-mod board;
 mod check;
+mod command;
 mod cut;
-pub mod history;
 mod laws;
 mod print;
 mod prover;
 mod read;
 mod refusal;
 mod say;
+mod serve;
 mod session;
 mod settle;
 mod tell;
@@ -22,5 +22,5 @@ mod top;
 mod words;
 
 pub use check::Done;
-pub use laws::{one_of_the_two, one_print, problems_are_compared};
+pub use laws::{one_of_the_two, one_print};
 pub use top::agree;

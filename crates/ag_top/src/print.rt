@@ -33,14 +33,14 @@ fn printed(alloc: Global, text: &[u8]) -> Result<Bytes, Refused>
 /// nothing to print.
 pub fn print_text<K: Sink>(alloc: Global, text: &[u8], sink: &mut K) -> Done
     requires { length text.now ≤ 4194304 }
-    ensures printed { result.status ≡ statuses.AllGood → IsTextPrinted text.now result.history (K.written sink.old) (K.written sink.new) }
-    ensures refused { result.status ≡ statuses.ModelRefused → IsTextUnprinted text.now result.history (K.written sink.old) (K.written sink.new) }
-    ensures memory { result.status ≡ statuses.OutOfMemory → IsNothing result.history (K.written sink.old) (K.written sink.new) }
+    ensures printed { result.status ≡ statuses.AllGood → IsTextPrinted text.now result.history.entries (K.written sink.old) (K.written sink.new) }
+    ensures refused { result.status ≡ statuses.ModelRefused → IsTextUnprinted text.now result.history.entries (K.written sink.old) (K.written sink.new) }
+    ensures memory { result.status ≡ statuses.OutOfMemory → IsNothing result.history.entries (K.written sink.old) (K.written sink.new) }
     ensures broken { result.status ≡ statuses.WriteFault → IsTextPartlyPrinted text.now (K.written sink.old) (K.written sink.new) }
     ensures write { result.status ≡ statuses.WriteFault → Rose (K.faults sink.old) (K.faults sink.new) }
     ensures unfaulted { result.status ≢ statuses.WriteFault → K.faults sink.new ≡ K.faults sink.old }
     ensures never_falls { K.faults sink.old ≤ K.faults sink.new }
-    ensures history { result.history ≡ [] }
+    ensures history { result.history.entries ≡ [] }
     ensures only { IsEndOfPrint result.status }
 {
     match printed(alloc, text) {

@@ -1,7 +1,6 @@
 //! Deciding a plain problem by trying every valuation of its free streams at one instant.
-ghost use Rattle.std.specs.Prelude.{◌≡◌, ◌+◌, ◌<◌, ◌≤◌, ◌↔◌, [], ◌∷◌, ℕ, false, length, IsTrue, All, Contains, IfOk, IfSome, IfNone, slice_index_or, MatchOption};
+ghost use Rattle.std.specs.Prelude.{◌≡◌, ◌+◌, ◌<◌, ◌↔◌, [], ℕ, false, length, IsTrue, All, Contains, IfOk, IfSome, IfNone, slice_index_or, MatchOption};
 ghost use Rattle.ag_verdict.specs.declared.verdict.Verdict.TheVariants.{Consistent, Inconsistent};
-ghost use Rattle.ag_base.specs.declared.limits.Limits.{Limits};
 ghost use Rattle.ag_stream.specs.declared.problem.Instant.{Instant as InstantValue};
 ghost use Rattle.ag_stream.specs.Forms.{IsPlain, targets};
 ghost use Rattle.ag_stream.specs.Runs.{IsRun};
@@ -10,7 +9,7 @@ ghost use Rattle.ag_verdict.specs.Verdicts.{IsTrueOf};
 ghost use Rattle.ag_verdict.specs.Within.{IsWithin};
 ghost use Rattle.ag_top.specs.Trying.{IsSought, AgreesOutside, claim_verdict_of};
 
-use ag_base::{List, OutOfMemory};
+use ag_base::{Limits, List, OutOfMemory};
 use ag_stream::{Equation, EvalFault, Instant, Problem, Run, breaks, eval, keeps_premises};
 use ag_verdict::Verdict;
 use ag_verdict::plain::instants_decide;
@@ -144,11 +143,12 @@ fn find_sought(alloc: Global, problem: &Problem) -> Result<Option<Run>, OutOfMem
 }
 
 /// The verdict of a plain problem, which single instants decide.
-pub fn try_all(alloc: Global, problem: &Problem) -> Result<Verdict, OutOfMemory>
+pub fn try_all(alloc: Global, limits: &Limits, problem: &Problem) -> Result<Verdict, OutOfMemory>
     requires plain { IsPlain problem.now }
     ensures true_verdict { IfOk result (IsTrueOf problem.now) }
-    ensures within { IfOk result (λ v. (l : Limits) → IsWithin l v) }
+    ensures within { IfOk result (IsWithin limits.now problem.now) }
 {
+    let _ = limits;
     instants_decide();
     problem.know();
     let found = find_sought(alloc, problem)?;

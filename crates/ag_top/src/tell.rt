@@ -18,7 +18,7 @@ pub fn tell<K: Sink>(alloc: Global, sink: &mut K, text: &[u8], status: Status) -
     ensures write { (status ≡ statuses.WriteFault → ⊥) → result.status ≡ statuses.WriteFault → Rose (K.faults sink.old) (K.faults sink.new) }
     ensures unfaulted { result.status ≢ statuses.WriteFault → K.faults sink.new ≡ K.faults sink.old }
     ensures never_falls { K.faults sink.old ≤ K.faults sink.new }
-    ensures history { result.history ≡ [] }
+    ensures history { result.history.entries ≡ [] }
 {
     match say(sink, text) {
         Ok(()) => ended(alloc, status),

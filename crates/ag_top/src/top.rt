@@ -1,5 +1,6 @@
 //! The top call.
 ghost use Rattle.std.specs.Prelude.{◌≡◌, ◌≢◌, ◌⊎◌, ◌≤◌, IfOk, length};
+ghost use Rattle.ag_base.specs.declared.limits.Limits.{Limits as LimitsValue};
 ghost use Rattle.ag_base.specs.declared.place.Place.{Place};
 ghost use Rattle.ag_small.specs.declared.package.Package.{Package};
 ghost use Rattle.ag_small.specs.Reads.{Reads};
@@ -19,7 +20,9 @@ use crate::refusal::refusal_line;
 use crate::say::say;
 use crate::tell::tell;
 use crate::words::{Order, order_of};
-use ag_base::{Bytes, Failed, Folder, OutOfMemory, Refusal, Rule, Sink, Source, Status, Text};
+use ag_base::{
+    Bytes, Failed, Folder, Limits, OutOfMemory, Refusal, Rule, Sink, Source, Status, Text,
+};
 use ag_small::{ReadFault, place_of_refusal, read};
 use std::alloc::Global;
 use std::sync::Wait;
@@ -45,9 +48,9 @@ fn departure(alloc: Global, text: &[u8]) -> Result<Bytes, OutOfMemory>
 fn refuse_text<K: Sink>(alloc: Global, text: &[u8], sink: &mut K) -> Done
     requires few { length text.now ≤ 4194304 }
     requires none { (p : Package) → Reads text.now p → ⊥ }
-    ensures refused { result.status ≡ statuses.ModelRefused → IsTextRefused text.now result.history (K.written sink.old) (K.written sink.new) }
-    ensures memory { result.status ≡ statuses.OutOfMemory → IsNothing result.history (K.written sink.old) (K.written sink.new) }
-    ensures broken { result.status ≡ statuses.WriteFault → IsTextBroken text.now result.history (K.written sink.old) (K.written sink.new) }
+    ensures refused { result.status ≡ statuses.ModelRefused → IsTextRefused text.now result.history.entries (K.written sink.old) (K.written sink.new) }
+    ensures memory { result.status ≡ statuses.OutOfMemory → IsNothing result.history.entries (K.written sink.old) (K.written sink.new) }
+    ensures broken { result.status ≡ statuses.WriteFault → (l : LimitsValue) → IsTextBroken l text.now result.history.entries (K.written sink.old) (K.written sink.new) }
     ensures write { result.status ≡ statuses.WriteFault → Rose (K.faults sink.old) (K.faults sink.new) }
     ensures unfaulted { result.status ≢ statuses.WriteFault → K.faults sink.new ≡ K.faults sink.old }
     ensures never_falls { K.faults sink.old ≤ K.faults sink.new }
@@ -64,12 +67,12 @@ fn refuse_text<K: Sink>(alloc: Global, text: &[u8], sink: &mut K) -> Done
 }
 
 /// Checks the package that a text spells, if it spells one.
-fn check_text<K: Sink>(alloc: Global, text: &[u8], sink: &mut K) -> Done
+fn check_text<K: Sink>(alloc: Global, limits: Limits, text: &[u8], sink: &mut K) -> Done
     requires { length text.now ≤ 4194304 }
-    ensures answer { EndsByVerdicts result.status → IsTextAnswer text.now result.history result.status (K.written sink.old) (K.written sink.new) }
-    ensures refused { result.status ≡ statuses.ModelRefused → IsTextRefused text.now result.history (K.written sink.old) (K.written sink.new) }
-    ensures memory { result.status ≡ statuses.OutOfMemory → IsNothing result.history (K.written sink.old) (K.written sink.new) ⊎ IsTextCut text.now result.history (K.written sink.old) (K.written sink.new) }
-    ensures broken { result.status ≡ statuses.WriteFault → IsTextBroken text.now result.history (K.written sink.old) (K.written sink.new) }
+    ensures answer { EndsByVerdicts result.status → IsTextAnswer limits text.now result.history.entries result.status (K.written sink.old) (K.written sink.new) }
+    ensures refused { result.status ≡ statuses.ModelRefused → IsTextRefused text.now result.history.entries (K.written sink.old) (K.written sink.new) }
+    ensures memory { result.status ≡ statuses.OutOfMemory → IsNothing result.history.entries (K.written sink.old) (K.written sink.new) ⊎ IsTextCut limits text.now result.history.entries (K.written sink.old) (K.written sink.new) }
+    ensures broken { result.status ≡ statuses.WriteFault → IsTextBroken limits text.now result.history.entries (K.written sink.old) (K.written sink.new) }
     ensures write { result.status ≡ statuses.WriteFault → Rose (K.faults sink.old) (K.faults sink.new) }
     ensures unfaulted { result.status ≢ statuses.WriteFault → K.faults sink.new ≡ K.faults sink.old }
     ensures never_falls { K.faults sink.old ≤ K.faults sink.new }
@@ -78,7 +81,7 @@ fn check_text<K: Sink>(alloc: Global, text: &[u8], sink: &mut K) -> Done
     match read(alloc, text) {
         Err(ReadFault::OutOfMemory) => ended(alloc, Status::OutOfMemory),
         Err(ReadFault::NotBuilt) => refuse_text(alloc, text, sink),
-        Ok(package) => check(alloc, package, sink),
+        Ok(package) => check(alloc, limits, package, sink),
     }
 }
 
@@ -95,16 +98,16 @@ pub fn agree<R: Threads + Wait + Sync, S: Source, K: Sink, F: Folder>(
     folder: &mut F,
 ) -> Done
     // The words are no command.
-    ensures usage { result.status ≡ statuses.Usage → IsUsage words.now result.history (K.written sink.old) (K.written sink.new) }
+    ensures usage { result.status ≡ statuses.Usage → IsUsage words.now result.history.entries (K.written sink.old) (K.written sink.new) }
 
     // What was read is too long, or is no package of the check's grammar, or its print is refused.
-    ensures refused { result.status ≡ statuses.ModelRefused → IsRefusal words.now (S.left source.old) result.history (K.written sink.old) (K.written sink.new) ⊎ IsPrintRefusal words.now (S.left source.old) result.history (K.written sink.old) (K.written sink.new) }
+    ensures refused { result.status ≡ statuses.ModelRefused → IsRefusal words.now (S.left source.old) result.history.entries (K.written sink.old) (K.written sink.new) ⊎ IsPrintRefusal words.now (S.left source.old) result.history.entries (K.written sink.old) (K.written sink.new) }
 
     // The headline, for a check; the canonical text, for a print.
-    ensures answer { EndsByVerdicts result.status → IsAnswer words.now (S.left source.old) result.history result.status (K.written sink.old) (K.written sink.new) ⊎ IsPrintAnswer words.now (S.left source.old) result.history result.status (K.written sink.old) (K.written sink.new) }
+    ensures answer { EndsByVerdicts result.status → IsAnswer words.now (S.left source.old) result.history.entries result.status (K.written sink.old) (K.written sink.new) ⊎ IsPrintAnswer words.now (S.left source.old) result.history.entries result.status (K.written sink.old) (K.written sink.new) }
 
     // A fault is told only where its count rose.
-    ensures read_fault { result.status ≡ statuses.ReadFault → IsCommand words.now × Rose (S.faults source.old) (S.faults source.new) × IsNothing result.history (K.written sink.old) (K.written sink.new) }
+    ensures read_fault { result.status ≡ statuses.ReadFault → IsCommand words.now × Rose (S.faults source.old) (S.faults source.new) × IsNothing result.history.entries (K.written sink.old) (K.written sink.new) }
     ensures write_fault { result.status ≡ statuses.WriteFault → Rose (K.faults sink.old) (K.faults sink.new) }
 
     // Where no fault is told, no count moved; and none ever falls.
@@ -122,10 +125,10 @@ pub fn agree<R: Threads + Wait + Sync, S: Source, K: Sink, F: Folder>(
     ensures files { F.files folder.new ≡ F.files folder.old }
 
     // Of what would have been written the first bytes were.
-    ensures broken { result.status ≡ statuses.WriteFault → IsBroken words.now (S.left source.old) result.history (K.written sink.old) (K.written sink.new) }
+    ensures broken { result.status ≡ statuses.WriteFault → IsBroken words.now (S.left source.old) result.history.entries (K.written sink.old) (K.written sink.new) }
 
     // For want of memory nothing was written, or, of a check, the replies to the first commands.
-    ensures memory { result.status ≡ statuses.OutOfMemory → IsNothing result.history (K.written sink.old) (K.written sink.new) ⊎ IsUnfinished words.now (S.left source.old) result.history (K.written sink.old) (K.written sink.new) }
+    ensures memory { result.status ≡ statuses.OutOfMemory → IsNothing result.history.entries (K.written sink.old) (K.written sink.new) ⊎ IsUnfinished words.now (S.left source.old) result.history.entries (K.written sink.old) (K.written sink.new) }
 
     ensures no_session { result.status ≢ statuses.SessionRefused }
 {
@@ -138,7 +141,7 @@ pub fn agree<R: Threads + Wait + Sync, S: Source, K: Sink, F: Folder>(
         Err(TextFault::Failed) => ended(alloc, Status::ReadFault),
         Err(TextFault::OutOfMemory) => ended(alloc, Status::OutOfMemory),
         Ok(text) => match order {
-            Order::Check => check_text(alloc, text.as_slice(), sink),
+            Order::Check => check_text(alloc, Limits::usual(), text.as_slice(), sink),
             Order::Print => print_text(alloc, text.as_slice(), sink),
         },
     }

@@ -12,7 +12,7 @@ returns-in-Some-clause-true_verdict c =
 
 pub returns-in-Some-clause-within : goal.returns-in-Some-clause-within
 returns-in-Some-clause-within c =
-    rw c.claim_verdict.ensures (claim_within c.args.problem.now c.in_ok-found.found (record { found = c.in_ok-found.ensures.found; none = c.in_ok-found.ensures.none }))
+    rw c.claim_verdict.ensures (claim_within c.args.problem.now c.in_ok-found.found (record { found = c.in_ok-found.ensures.found; none = c.in_ok-found.ensures.none }) c.args.limits.now)
 
 pub premises_verdict-requires : goal.premises_verdict-requires
 premises_verdict-requires c = found_flat c.args.problem.now c.in_ok-found.found c.requires.plain (record { found = c.in_ok-found.ensures.found; none = c.in_ok-found.ensures.none })
@@ -26,4 +26,4 @@ returns-in-None-clause-true_verdict c =
 pub returns-in-None-clause-within : goal.returns-in-None-clause-within
 returns-in-None-clause-within c =
     let f : Found c.args.problem.now c.in_ok-found.found = record { found = c.in_ok-found.ensures.found; none = c.in_ok-found.ensures.none } in
-    IfOk-weaker c.premises_verdict.result _ _ (λ v h. premises_within c.args.problem.now c.in_ok-found.found v c.draft-in-None.result.now.length f h) c.premises_verdict.ensures
+    IfOk-weaker c.premises_verdict.result _ _ (λ v h. premises_within c.args.problem.now c.in_ok-found.found v c.draft-in-None.result.now.length f h c.args.limits.now) c.premises_verdict.ensures

@@ -12,3 +12,6 @@ returns-in-Ok-clause-only g c = end_of_text _ c.check.ensures.only
 
 pub returns-in-Err-NotBuilt-clause-answer : goal.returns-in-Err-NotBuilt-clause-answer
 returns-in-Err-NotBuilt-clause-answer g c = λ e. absurd (c.refuse_text.ensures.unanswered e)
+
+pub returns-in-Err-NotBuilt-clause-broken : goal.returns-in-Err-NotBuilt-clause-broken
+returns-in-Err-NotBuilt-clause-broken g c = λ m. c.refuse_text.ensures.broken m c.args.limits
