@@ -1,0 +1,22 @@
+-- The lemmas of this crate.
+pub mod Breaks
+pub mod Containment
+pub mod Declarations
+pub mod DeclaredNames
+pub mod DeclaredOrder
+pub mod Distinct
+pub mod Entries
+pub mod First
+pub mod KeyOrder
+pub mod Linked
+pub mod Lookups
+pub mod Neighbours
+pub mod Owners
+pub mod SameNames
+pub mod Searched
+pub mod Seconds
+pub mod Twices
+pub mod TypesBreak
+pub mod Uses
+pub mod Joined
+pub mod Sources

@@ -1,0 +1,6 @@
+use Rattle.std.proofs.Common.{◌≡◌, take}
+use Rattle.ag_names.specs.Twice.{implementation_names}
+use Rattle.ag_names.proofs.twice.first_implementation_twice.Given as goal
+
+abbrev pub invariant-loop-item : goal.invariant-loop-item
+invariant-loop-item l = l.names.items ≡ implementation_names (take l.item-index l.items)
