@@ -1,7 +1,7 @@
-//! Worked cases: what the crates answer to texts, from tokens to the rules on types, and what `print -` writes and refuses.
+//! Worked cases: what the readers answer to texts, from tokens to clauses, and what `print -` writes and refuses.
 //!
-//! It has no items but tests. Each module stands for one public call, and `rules` for all rules on annexes and
-//! types; most have tables with a case on each line, so that a case is added as a line. Start at `table`.
+//! It has no items but tests. Each module stands for one public call, and `rules` for all rules on annexes; most have
+//! tables with a case on each line, so that a case is added as a line. The tables are read by `ag_case_texts`.
 #![tactic(auto)]
 
 #[cfg(test)]
@@ -16,11 +16,5 @@ mod refusals;
 mod rules;
 #[cfg(test)]
 mod runs;
-#[cfg(test)]
-mod scopes;
-#[cfg(test)]
-mod sums;
-#[cfg(test)]
-mod table;
 #[cfg(test)]
 mod tokens;

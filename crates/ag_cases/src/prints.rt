@@ -1,8 +1,8 @@
 //! Canonical text: what `print -` writes of packages and clauses.
 use crate::refusals::{expect_refused, in_annex};
 use crate::runs::{MODEL, PACKAGE, expect_run};
-use crate::table::{field, is_case, marked};
 use ag_base::Status;
+use ag_case_texts::{field, is_case, marked};
 use std::alloc::Global;
 use std::process::Abort;
 use std::sync::Wait;

@@ -1,7 +1,7 @@
 //! Refusals: which rule of tokens and packages a text breaks first, and where, as `print -` tells it.
 use crate::runs::expect_run;
-use crate::table::{field, is_case, marked};
 use ag_base::Status;
+use ag_case_texts::{field, is_case, marked};
 use std::alloc::Global;
 use std::process::Abort;
 use std::sync::Wait;

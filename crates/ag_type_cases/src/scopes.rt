@@ -1,8 +1,8 @@
 //! Scopes: what is answered for the clauses of a package, a type and an implementation.
-use crate::clauses::clauses_of;
 use ag_aadl::packages::Ident;
 use ag_annex::{Clause, Site, Ty, Var};
 use ag_base::{List, OutOfMemory, Place, Refusal, Refused, Rule, Text};
+use ag_case_texts::annexes::clauses_of;
 use ag_types::Scope;
 use std::alloc::Global;
 use std::test::Fail;

@@ -1,9 +1,9 @@
 //! Expressions: their types, whether they are sums, and the rows of sums.
-use crate::clauses::clauses_of;
 use crate::scopes::{ports, streams_and_sum};
-use crate::table::{field, is_case, marked};
 use ag_annex::{Clause, Site, Ty};
 use ag_base::{Place, Refusal, Refused, Rule};
+use ag_case_texts::annexes::clauses_of;
+use ag_case_texts::{field, is_case, marked};
 use ag_stream::problem::{Row, RowTerm};
 use ag_types::{Scope, is_sum, linear, type_of};
 use std::alloc::Global;
