@@ -2,7 +2,7 @@
 use Rattle.std.proofs.Common.{◌≡◌, ◌⊎◌, inl, inr, ℕ, ◌+◌, ◌*◌, ◌<◌, ◌≤◌, ◌||◌, Bool, false, ℤ, List, [], ◌∷◌, ◌++◌, length, get_or, take, reverse, Option, Some, None, Vec, Global, refl, sym, ap, subst, ◌∙◌, arith, All, Contains}
 use Rattle.std.specs.Option.{is_some}
 use Rattle.std.proofs.lemmas.List.{append_assoc, length-take, get_or-take, get_or_push, length_push, reverse-reverse, take-append-le, take_all}
-use Rattle.std.proofs.lemmas.List.Elements.{All-nil, All-cons, All-head, All-tail, All-push, All-weaker, All-contains}
+use Rattle.std.proofs.lemmas.List.Elements.{All-nil, All-cons, All-head, All-tail, All-push, All-weaker, All-contains, Contains-append_left, Contains-push}
 use Rattle.std.proofs.lemmas.List.Sums.{sum_by_push}
 use Rattle.std.proofs.lemmas.Option.{slice_get-get_or}
 use Rattle.std.specs.Bool.{beq}
@@ -22,9 +22,10 @@ use Rattle.ag_tree.specs.declared.rounds.Fact.{Fact}
 use Rattle.ag_tree.specs.declared.choices.Guide.{Guide}
 use Rattle.ag_tree.specs.Facts.{HasNoneBothWays, Lacks, IsAtRest, IsAtRestAlong, IsFact, AreFacts, literal_count}
 use Rattle.ag_tree.specs.Trail.{Seen, literals, denial, reasons, AreSound, IsSoundStep, IsDrawnBy, RestsBefore, IsAgainst, IsSettled, Draws, IsBackTo}
-use Rattle.ag_tree.specs.Going.{IsClauseLine, IsListed, IsAmong, PassesAs, PropagatesAs, known, IsGoing, IsReady, AreAtRest, IsConcluded, SettlesAs}
+use Rattle.ag_tree.specs.Going.{IsClauseLine, IsListed, IsCovered, IsAmong, PassesAs, PropagatesAs, known, IsGoing, IsReady, AreAtRest, IsConcluded, SettlesAs}
 use Rattle.ag_tree.specs.Listing.{listed}
 use Rattle.ag_tree.proofs.Lits.{contains_all, contains_head, contains_reverse, none_some}
+use Rattle.ag_tree.proofs.Covering.{IsRelisted, covered_still, covers_self, rest_part}
 use Rattle.ag_tree.proofs.Drawing.{rests_drawn, draws_settled, settled_less, settled_push}
 use Rattle.ag_tree.proofs.Units.{concludes, reasons_all, sound_drawn}
 use Rattle.ag_tree.proofs.NewFacts.{sound_fresh, sound_back, rests_back, rests_more, denial_plain, is_fact, facts_push}
@@ -45,7 +46,8 @@ going_draws s t head unseen g d lines =
       few = g.few;
       slots = g.slots ∙ ap (λ (n : ℕ). 2 * n) (sym d.atoms);
       lists = λ l n h. subst (λ (a : ℕ). C a n) (sym d.atoms) (g.lists l n h);
-      listed = g.listed;
+      covered = g.covered;
+      listed = subst (λ (a : ℕ). All (C a) s.listed.items) (sym d.atoms) g.listed;
       unseen = subst (λ (a : ℕ). All (C a) unseen.items) (sym d.atoms) lines;
     }
 
@@ -61,7 +63,10 @@ passed_settled s mid ready d passed k e lt =
 
 pub propagated_rests : (s : Progress) (mid now : Seen) → IsGoing s → IsReady s → Draws s.kernel.lines s.trail mid → PassesAs s.kernel.lines s.unseen.items s.trail mid None → PropagatesAs s.kernel.lines s.occurrences s.head mid now None → IsAtRestAlong (literals now.steps) (known s)
 propagated_rests s mid now g ready d passed through k e lt =
-    through (get_or (known s) k e).lits (g.listed k e lt) (passed_settled s mid ready d passed k e lt)
+    let c : IsCovered s.kernel.lines s.occurrences (known s) (get_or (known s) k e).lits = g.covered k e lt in
+    let S : LClause → Type 0 = λ x. IsSettled s.head mid.steps x.lits in
+    rest_part (literals now.steps) c.part.lits (get_or (known s) k e).lits c.within
+    (through c.part.lits c.listed (All-contains S (known s) c.part (passed_settled s mid ready d passed) c.known))
 
 -- ---- the kernel grows
 
@@ -92,6 +97,10 @@ longer_listed before now lists clause more c =
     let le = longer_length before now more in
     record { number = c.number; there = omega (arith, c.there, le); is_line = ap (λ (x : Line). x.lits) (longer_line before now c.number more c.there) ∙ c.is_line; under = c.under }
 
+longer_covered : (before now : List Line) (lists : List (List ℕ)) (clauses : List LClause) (clause : List Lit) → IsLonger before now → IsCovered before lists clauses clause → IsCovered now lists clauses clause
+longer_covered before now lists clauses clause more c =
+    record { part = c.part; known = c.known; within = c.within; listed = longer_listed before now lists c.part.lits more c.listed }
+
 longer_drawn : (before now : List Line) (n : ℕ) (l : Lit) (lits : List Lit) → IsLonger before now → IsDrawnBy before n l lits → IsDrawnBy now n l lits
 longer_drawn before now n l lits more d =
     let e : line_at before n ≡ line_at now n = sym (longer_line before now n more d.there) in
@@ -111,8 +120,8 @@ pub going_grown : (s : Progress) (k : State) (asked : ℕ) (guide : Guide) → I
 going_grown s k asked guide g grown begins =
     let more : IsLonger s.kernel.lines k.lines = record { begins = grown.lines } in
     let e : s.kernel.query ≡ k.query = sym grown.query in
-    let L : LClause → Type 0 = λ c. IsListed s.kernel.lines s.occurrences c.lits in
-    let M : LClause → Type 0 = λ c. IsListed k.lines s.occurrences c.lits in
+    let L : LClause → Type 0 = λ c. IsCovered s.kernel.lines s.occurrences (known s) c.lits in
+    let M : List LClause → LClause → Type 0 = λ cs c. IsCovered k.lines s.occurrences cs c.lits in
     record {
       begins = begins;
       atoms = g.atoms ∙ ap (λ (q : Query). length q.atoms) e;
@@ -123,7 +132,9 @@ going_grown s k asked guide g grown begins =
       few = g.few;
       slots = g.slots;
       lists = λ l n h. longer_clause s.kernel.lines k.lines s.trail.atoms n more (g.lists l n h);
-      listed = subst (λ (q : Query). All M (q.clauses ++ s.facts)) e (All-weaker L M (λ c h. longer_listed s.kernel.lines k.lines s.occurrences c.lits more h) (known s) g.listed);
+      covered = subst (λ (q : Query). All (M (q.clauses ++ s.facts)) (q.clauses ++ s.facts)) e
+          (All-weaker L (M (known s)) (λ c h. longer_covered s.kernel.lines k.lines s.occurrences (known s) c.lits more h) (known s) g.covered);
+      listed = All-weaker (IsClauseLine s.kernel.lines s.trail.atoms) (IsClauseLine k.lines s.trail.atoms) (λ n h. longer_clause s.kernel.lines k.lines s.trail.atoms n more h) s.listed.items g.listed;
       unseen = All-weaker (IsClauseLine s.kernel.lines s.trail.atoms) (IsClauseLine k.lines s.trail.atoms) (λ n h. longer_clause s.kernel.lines k.lines s.trail.atoms n more h) s.unseen.items g.unseen;
     }
 
@@ -138,6 +149,7 @@ going_asked s asked guide g = record {
   few = g.few;
   slots = g.slots;
   lists = g.lists;
+  covered = g.covered;
   listed = g.listed;
   unseen = g.unseen;
 }
@@ -254,33 +266,32 @@ fact_line s fact g c =
       plain = subst (λ (x : Line). HasNoneBothWays x.lits) e plain;
     }
 
--- the occurrences have the new line besides
-pub record IsAdded (before now : List (List ℕ)) (lits : List Lit) (line : ℕ) : Type 0 where
-  pub slots : length now ≡ length before
-  pub kept : (l : Lit) (n : ℕ) → Contains (listed before l) n → Contains (listed now l) n
-  pub under : All (λ l. Contains (listed now (contrary l)) line) lits
-  pub only : (l : Lit) (n : ℕ) → Contains (listed now l) n → Contains (listed before l) n ⊎ (n ≡ line)
-
-added_listed : (lines : List Line) (before now : List (List ℕ)) (lits clause : List Lit) (line : ℕ) → IsAdded before now lits line → IsListed lines before clause → IsListed lines now clause
-added_listed lines before now lits clause line a c =
-    record { number = c.number; there = c.there; is_line = c.is_line; under = λ k d lt. a.kept (contrary (get_or clause k d)) c.number (c.under k d lt) }
-
-pub learned_going : (s : Progress) (fact : Fact) (lists : List (List ℕ)) (t : Seen) (l : Lit) (f : LClause) (facts : List LClause) (count head asked : ℕ) (guide : Guide) (unseen : Vec ℕ Global) → IsGoing s → IsConcluded s fact → 0 < length fact.lits.items → s.literals + length fact.lits.items ≤ 600000 → IsAdded s.occurrences lists fact.lits.items fact.number → IsBackTo s.trail.steps t.steps l → t.atoms ≡ s.trail.atoms → f.lits ≡ fact.lits.items → facts ≡ s.facts ++ f ∷ [] → count ≡ s.literals + length fact.lits.items → unseen.items ≡ fact.number ∷ [] → IsGoing (record { kernel = s.kernel; occurrences = lists; trail = t; facts = facts; literals = count; head = head; unseen = unseen; asked = asked; guide = guide })
-learned_going s fact lists t l f facts count head asked guide unseen g c some few a back atoms lits is counted one =
+pub learned_going : (s : Progress) (fact : Fact) (lists : List (List ℕ)) (t : Seen) (l : Lit) (f : LClause) (facts : List LClause) (count head asked : ℕ) (guide : Guide) (recent unseen : Vec ℕ Global) → IsGoing s → IsConcluded s fact → 0 < length fact.lits.items → s.literals + length fact.lits.items ≤ 600000 → IsRelisted s.kernel.lines s.occurrences lists fact.lits.items fact.number → All (λ n. Contains s.listed.items n ⊎ (n ≡ fact.number)) recent.items → IsBackTo s.trail.steps t.steps l → t.atoms ≡ s.trail.atoms → f.lits ≡ fact.lits.items → facts ≡ s.facts ++ f ∷ [] → count ≡ s.literals + length fact.lits.items → unseen.items ≡ fact.number ∷ [] → IsGoing (record { kernel = s.kernel; occurrences = lists; listed = recent; trail = t; facts = facts; literals = count; head = head; unseen = unseen; asked = asked; guide = guide })
+learned_going s fact lists t l f facts count head asked guide recent unseen g c some few a fewer back atoms lits is counted one =
     let q : Query = s.kernel.query in
     let lines : List Line = s.kernel.lines in
     let C : ℕ → ℕ → Type 0 = λ n k. IsClauseLine lines n k in
     let line : C s.trail.atoms fact.number = fact_line s fact g c in
     let fact_is : IsFact q (known s) f.lits = subst (λ (xs : List Lit). IsFact q (known s) xs) (sym lits) (fact_of s fact g c some) in
-    let L : LClause → Type 0 = λ x. IsListed lines s.occurrences x.lits in
-    let M : LClause → Type 0 = λ x. IsListed lines lists x.lits in
-    let new : M f = record {
+    let new : IsListed lines lists f.lits = record {
       number = fact.number;
       there = c.there;
       is_line = ap (λ (x : Line). x.lits) c.line ∙ sym lits;
       under = subst (λ (xs : List Lit). All (λ x. Contains (listed lists (contrary x)) fact.number) xs) (sym lits) a.under;
     } in
     let whole : (q.clauses ++ s.facts) ++ f ∷ [] ≡ q.clauses ++ facts = append_assoc q.clauses s.facts (f ∷ []) ∙ ap (λ (xs : List LClause). q.clauses ++ xs) (sym is) in
+    let now : List LClause = known s ++ f ∷ [] in
+    let M : List LClause → LClause → Type 0 = λ cs x. IsCovered lines lists cs x.lits in
+    let L : LClause → Type 0 = λ x. IsCovered lines s.occurrences (known s) x.lits in
+    let relisted : IsRelisted lines s.occurrences lists f.lits fact.number = subst (λ (xs : List Lit). IsRelisted lines s.occurrences lists xs fact.number) (sym lits) a in
+    let old : All (M now) (known s) =
+    All-weaker L (M now) (λ x h. covered_still lines s.occurrences lists (known s) now f fact.number x.lits relisted (λ y has. Contains-append_left (known s) (f ∷ []) y has) (Contains-push (known s) f) new h) (known s) g.covered in
+    let N : ℕ → Type 0 = λ n. Contains s.listed.items n ⊎ (n ≡ fact.number) in
+    let stands : (n : ℕ) → N n → C s.trail.atoms n =
+    λ n h. elim h [
+      | inl has ↦ All-contains (C s.trail.atoms) s.listed.items n g.listed has
+      | inr e ↦ subst (λ (k : ℕ). C s.trail.atoms k) (sym e) line
+    ] in
     record {
       begins = g.begins;
       atoms = atoms ∙ g.atoms;
@@ -294,12 +305,13 @@ learned_going s fact lists t l f facts count head asked guide unseen g c some fe
         | inl old ↦ g.lists x n old
         | inr e ↦ subst (λ (k : ℕ). C s.trail.atoms k) (sym e) line
       ]);
-      listed = subst (λ (cs : List LClause). All M cs) whole (All-push M (known s) f (All-weaker L M (λ x h. added_listed lines s.occurrences lists fact.lits.items x.lits fact.number a h) (known s) g.listed) new);
+      covered = subst (λ (cs : List LClause). All (M cs) cs) whole (All-push (M now) (known s) f old (covers_self lines lists now f (Contains-push (known s) f) new));
+      listed = subst (λ (k : ℕ). All (C k) recent.items) (sym atoms) (All-weaker N (C s.trail.atoms) (λ n h. stands n h) recent.items fewer);
       unseen = subst (λ (ns : List ℕ). All (C t.atoms) ns) (sym one) (subst (λ (k : ℕ). All (C k) (fact.number ∷ [])) (sym atoms) (All-cons (C s.trail.atoms) fact.number [] line (All-nil (C s.trail.atoms))));
     }
 
-pub learned_ready : (s : Progress) (fact : Fact) (lists : List (List ℕ)) (t : Seen) (l : Lit) (f : LClause) (facts : List LClause) (count head asked : ℕ) (guide : Guide) (unseen : Vec ℕ Global) → IsGoing s → IsConcluded s fact → IsBackTo s.trail.steps t.steps l → f.lits ≡ fact.lits.items → facts ≡ s.facts ++ f ∷ [] → head ≡ length t.steps → unseen.items ≡ fact.number ∷ [] → IsReady (record { kernel = s.kernel; occurrences = lists; trail = t; facts = facts; literals = count; head = head; unseen = unseen; asked = asked; guide = guide })
-learned_ready s fact lists t l f facts count head asked guide unseen g c back lits is at one =
+pub learned_ready : (s : Progress) (fact : Fact) (lists : List (List ℕ)) (t : Seen) (l : Lit) (f : LClause) (facts : List LClause) (count head asked : ℕ) (guide : Guide) (recent unseen : Vec ℕ Global) → IsGoing s → IsConcluded s fact → IsBackTo s.trail.steps t.steps l → f.lits ≡ fact.lits.items → facts ≡ s.facts ++ f ∷ [] → head ≡ length t.steps → unseen.items ≡ fact.number ∷ [] → IsReady (record { kernel = s.kernel; occurrences = lists; listed = recent; trail = t; facts = facts; literals = count; head = head; unseen = unseen; asked = asked; guide = guide })
+learned_ready s fact lists t l f facts count head asked guide recent unseen g c back lits is at one =
     let q : Query = s.kernel.query in
     let whole : (q.clauses ++ s.facts) ++ f ∷ [] ≡ q.clauses ++ facts = append_assoc q.clauses s.facts (f ∷ []) ∙ ap (λ (xs : List LClause). q.clauses ++ xs) (sym is) in
     let R : LClause → Type 0 = λ x. IsAtRest (literals t.steps) x.lits in
@@ -330,6 +342,7 @@ chosen_going s t l head guide g rest lacks is =
       few = g.few;
       slots = g.slots;
       lists = g.lists;
+      covered = g.covered;
       listed = g.listed;
       unseen = g.unseen;
     })

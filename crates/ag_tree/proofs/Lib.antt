@@ -7,6 +7,7 @@ pub mod Drawing
 pub mod Units
 pub mod BothWays
 pub mod NewFacts
+pub mod Covering
 pub mod Going
 pub mod Starting
 pub mod Solving

@@ -5,6 +5,7 @@ use Rattle.std.specs.Option.{is_some}
 use Rattle.std.proofs.Common.{false}
 use Rattle.std.proofs.lemmas.List.{append-nil, get_or_default, get_or-map, length-map, map-id, take_all}
 use Rattle.std.proofs.lemmas.List.FromFn.{length-range_with_len, get_or-range_with_len, map-range_with_len_more}
+use Rattle.std.proofs.lemmas.List.Elements.{All-nil, Contains-get_or}
 use Rattle.std.proofs.lemmas.Bool.{cases_eq}
 use Rattle.ag_query.specs.declared.clauses.Lit.{Lit}
 use Rattle.ag_query.specs.declared.clauses.LClause.{LClause}
@@ -17,9 +18,10 @@ use Rattle.ag_tree.specs.declared.rounds.Progress.{Progress}
 use Rattle.ag_tree.specs.declared.choices.Guide.{Guide}
 use Rattle.ag_tree.specs.Facts.{HasNoneBothWays}
 use Rattle.ag_tree.specs.Trail.{Seen, IsSettled}
-use Rattle.ag_tree.specs.Going.{IsClauseLine, IsListed, IsAmong, IsGoing, IsReady}
+use Rattle.ag_tree.specs.Going.{IsClauseLine, IsListed, IsCovered, IsAmong, IsGoing, IsReady}
 use Rattle.ag_tree.specs.Listing.{listed}
-use Rattle.ag_tree.proofs.Going.{IsAdded}
+use Rattle.ag_tree.proofs.Covering.{covers_self}
+use Rattle.ag_tree.proofs.Listing.{IsAdded}
 
 -- the first clauses are listed
 pub record AreListedTo (clauses : List LClause) (before now : List (List ℕ)) (numbers : List ℕ) (upto : ℕ) : Type 0 where
@@ -102,12 +104,12 @@ begun_unseen query numbers plain is =
     let low : k < n = omega (arith, lt, length-range_with_len 0 n) in
     subst P (sym (get_or-range_with_len 0 n k d low ∙ omega arith)) (first_line query k plain low))
 
-pub started_going : (query : Query) (k : State) (lists : List (List ℕ)) (t : Seen) (facts : List LClause) (unseen : Vec ℕ Global) (guide : Guide) → All (λ c. HasNoneBothWays c.lits) query.clauses → k ≡ record { query = query; atoms = query.atoms; lines = map clause_line query.clauses } → t ≡ record { atoms = length query.atoms; steps = [] } → facts ≡ [] → length lists ≡ 2 * length query.atoms → ((l : Lit) (n : ℕ) → Contains (listed lists l) n → n < length query.clauses) → ((k : ℕ) (c : LClause) → k < length query.clauses → get_or query.clauses k c ≡ c → All (λ l. Contains (listed lists (contrary l)) k) c.lits) → unseen.items ≡ range_with_len 0 (length query.clauses) → IsGoing (record { kernel = k; occurrences = lists; trail = t; facts = facts; literals = 0; head = 0; unseen = unseen; asked = 0; guide = guide })
+pub started_going : (query : Query) (k : State) (lists : List (List ℕ)) (t : Seen) (facts : List LClause) (recent unseen : Vec ℕ Global) (guide : Guide) → All (λ c. HasNoneBothWays c.lits) query.clauses → k ≡ record { query = query; atoms = query.atoms; lines = map clause_line query.clauses } → t ≡ record { atoms = length query.atoms; steps = [] } → facts ≡ [] → length lists ≡ 2 * length query.atoms → ((l : Lit) (n : ℕ) → Contains (listed lists l) n → n < length query.clauses) → ((k : ℕ) (c : LClause) → k < length query.clauses → get_or query.clauses k c ≡ c → All (λ l. Contains (listed lists (contrary l)) k) c.lits) → recent.items ≡ [] → unseen.items ≡ range_with_len 0 (length query.clauses) → IsGoing (record { kernel = k; occurrences = lists; listed = recent; trail = t; facts = facts; literals = 0; head = 0; unseen = unseen; asked = 0; guide = guide })
 unfolding first
-started_going query k lists t facts unseen guide plain of at none slots only under is =
+started_going query k lists t facts recent unseen guide plain of at none slots only under empty is =
     let lines : List Line = map clause_line query.clauses in
-    let L : LClause → Type 0 = λ c. IsListed lines lists c.lits in
-    let P : State → Seen → List LClause → Progress = λ x y z. record { kernel = x; occurrences = lists; trail = y; facts = z; literals = 0; head = 0; unseen = unseen; asked = 0; guide = guide } in
+    let M : List LClause → LClause → Type 0 = λ cs c. IsCovered lines lists cs c.lits in
+    let P : State → Seen → List LClause → Progress = λ x y z. record { kernel = x; occurrences = lists; listed = recent; trail = y; facts = z; literals = 0; head = 0; unseen = unseen; asked = 0; guide = guide } in
     let here : IsGoing (P (first query) (record { atoms = length query.atoms; steps = [] }) []) = record {
       begins = take_all (length query.atoms) query.atoms (omega arith);
       atoms = refl;
@@ -118,17 +120,19 @@ started_going query k lists t facts unseen guide plain of at none slots only und
       few = omega arith;
       slots = slots;
       lists = λ l n h. first_line query n plain (only l n h);
-      listed = subst (λ (cs : List LClause). All L cs) (sym (append-nil query.clauses)) (begun_lists query lists under);
+      covered = subst (λ (cs : List LClause). All (M cs) cs) (sym (append-nil query.clauses))
+          (λ n c lt. covers_self lines lists query.clauses (get_or query.clauses n c) (Contains-get_or query.clauses n c lt) (begun_lists query lists under n c lt));
+      listed = subst (λ (ns : List ℕ). All (IsClauseLine lines (length query.atoms)) ns) (sym empty) (All-nil (IsClauseLine lines (length query.atoms)));
       unseen = begun_unseen query unseen.items plain is;
     } in
     subst (λ (x : State). IsGoing (P x t facts)) (sym of)
     (subst (λ (y : Seen). IsGoing (P (first query) y facts)) (sym at)
     (subst (λ (z : List LClause). IsGoing (P (first query) (record { atoms = length query.atoms; steps = [] }) z)) (sym none) here))
 
-pub started_ready : (query : Query) (k : State) (lists : List (List ℕ)) (t : Seen) (facts : List LClause) (unseen : Vec ℕ Global) (guide : Guide) → k ≡ record { query = query; atoms = query.atoms; lines = map clause_line query.clauses } → facts ≡ [] → unseen.items ≡ range_with_len 0 (length query.clauses) → IsReady (record { kernel = k; occurrences = lists; trail = t; facts = facts; literals = 0; head = 0; unseen = unseen; asked = 0; guide = guide })
+pub started_ready : (query : Query) (k : State) (lists : List (List ℕ)) (t : Seen) (facts : List LClause) (recent unseen : Vec ℕ Global) (guide : Guide) → k ≡ record { query = query; atoms = query.atoms; lines = map clause_line query.clauses } → facts ≡ [] → unseen.items ≡ range_with_len 0 (length query.clauses) → IsReady (record { kernel = k; occurrences = lists; listed = recent; trail = t; facts = facts; literals = 0; head = 0; unseen = unseen; asked = 0; guide = guide })
 unfolding first
-started_ready query k lists t facts unseen guide of none is =
-    let P : State → List LClause → Progress = λ x z. record { kernel = x; occurrences = lists; trail = t; facts = z; literals = 0; head = 0; unseen = unseen; asked = 0; guide = guide } in
+started_ready query k lists t facts recent unseen guide of none is =
+    let P : State → List LClause → Progress = λ x z. record { kernel = x; occurrences = lists; listed = recent; trail = t; facts = z; literals = 0; head = 0; unseen = unseen; asked = 0; guide = guide } in
     let lines : List Line = map clause_line query.clauses in
     let A : LClause → Type 0 = λ c. IsSettled 0 t.steps c.lits ⊎ IsAmong lines unseen.items c.lits in
     let here : IsReady (P (first query) []) = record {

@@ -15,7 +15,7 @@ use Rattle.ag_tree.specs.declared.rounds.Reached.{Reached}
 use Rattle.ag_tree.specs.declared.rounds.Reached.TheVariants as reached
 use Rattle.ag_tree.specs.Facts.{HasNoneBothWays, Lacks, AreFacts, IsAtRest, IsAtRestAlong, literal_count}
 use Rattle.ag_tree.specs.Trail.{Seen, literals, denial, AreSound, RestsBefore, IsAgainst, IsSettled}
-use Rattle.ag_tree.specs.Listing.{listed}
+use Rattle.ag_tree.specs.Listing.{listed, slot}
 use Rattle.ag_tree.specs.Answers.{IsMet, IsSpent, IsLeafOf}
 
 -- a line without a row, over so many atoms, with no atom both ways
@@ -31,6 +31,22 @@ pub record IsListed (lines : List Line) (lists : List (List ℕ)) (clause : List
   pub there : number < length lines
   pub is_line : (line_at lines number).lits ≡ clause
   pub under : All (λ l. Contains (listed lists (contrary l)) number) clause
+
+-- one of the clauses is a part of the clause, and is listed
+pub record IsCovered (lines : List Line) (lists : List (List ℕ)) (all : List LClause) (clause : List Lit) : Type 0 where
+  pub part : LClause
+  pub known : Contains all part
+  pub within : All (Contains clause) part.lits
+  pub listed : IsListed lines lists part.lits
+
+-- the line of this number has each of the literals
+abbrev pub HasPart : List Line → List Lit → ℕ → Type 0
+HasPart lines lits n = All (Contains (line_at lines n).lits) lits
+
+-- the line of this number has a list for the contrary of each of its literals, where there are so many lists
+pub record HasSlots (lines : List Line) (slots n : ℕ) : Type 0 where
+  pub there : n < length lines
+  pub below : All (λ l. slot (contrary l) < slots) (line_at lines n).lits
 
 -- the clause is one of the lines of these numbers
 pub record IsAmong (lines : List Line) (numbers : List ℕ) (clause : List Lit) : Type 0 where
@@ -62,7 +78,8 @@ pub record IsGoing (s : Progress) : Type 0 where
   pub few : s.literals ≤ 600000
   pub slots : length s.occurrences ≡ 2 * s.trail.atoms
   pub lists : (l : Lit) (n : ℕ) → Contains (listed s.occurrences l) n → IsClauseLine s.kernel.lines s.trail.atoms n
-  pub listed : All (λ c. IsListed s.kernel.lines s.occurrences c.lits) (known s)
+  pub covered : All (λ c. IsCovered s.kernel.lines s.occurrences (known s) c.lits) (known s)
+  pub listed : All (IsClauseLine s.kernel.lines s.trail.atoms) s.listed.items
   pub unseen : All (IsClauseLine s.kernel.lines s.trail.atoms) s.unseen.items
 
 -- each clause is at rest, still to be looked at, or one of the lines that no pass has seen

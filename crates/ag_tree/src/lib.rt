@@ -10,6 +10,7 @@ mod both_ways;
 mod choices;
 mod cone;
 mod occurrences;
+mod parts;
 mod plain;
 mod propagation;
 mod rounds;

@@ -1,13 +1,14 @@
 //! Which lines are to be looked at when a literal becomes true.
-ghost use Rattle.std.specs.Prelude.{◌≡◌, ◌⊎◌, ◌+◌, ◌*◌, ◌<◌, ℕ, [], replicate, length, All, Contains, OnOk, IfOk};
+ghost use Rattle.std.specs.Prelude.{◌≡◌, ◌⊎◌, ◌+◌, ◌*◌, ◌<◌, ◌++◌, ◌∷◌, ℕ, [], replicate, length, All, Contains, OnOk, IfOk};
 ghost use Rattle.ag_query.specs.declared.clauses.Lit.{Lit};
 ghost use Rattle.ag_query.specs.Meaning.{contrary};
-ghost use Rattle.ag_tree.specs.Listing.{listed, slot};
+ghost use Rattle.ag_tree.specs.Listing.{AddsNone, StaysBut, listed, slot};
 
 use ag_base::{List, OutOfMemory};
 use ag_query::Lit;
 use std::alloc::Global;
 use std::marker::Model;
+use std::mem;
 
 /// Numbers of lines by literal.
 #[derive(Drop)]
@@ -56,6 +57,30 @@ impl Occurrences {
         }
         Ok(())
     }
+
+    /// Takes the line off the list of the contrary of each of its literals, where it is the last one.
+    pub fn remove(&mut self, alloc: Global, lits: &[Lit], line: u32)
+        requires { All (λ l. slot (contrary l) < length self.old) lits.now }
+        ensures slots { length self.new ≡ length self.old }
+        ensures kept { StaysBut (λ n. n ≡ line) self.old self.new }
+        ensures only { AddsNone self.old self.new }
+    {
+        for lit in lits {
+            take_off(alloc, &mut self.lists[slot_of(lit.contrary())], line);
+        }
+    }
+}
+
+/// Takes the line off the numbers, where it is the last one.
+fn take_off(alloc: Global, numbers: &mut List<u32>, line: u32)
+    ensures { (numbers.new ≡ numbers.old) ⊎ (numbers.old ≡ numbers.new ++ line ∷ []) }
+{
+    let mut items = mem::replace(numbers, List::new(alloc)).into_vec();
+    let count = items.len();
+    if count > 0 && items[count - 1] == line {
+        items.pop();
+    }
+    *numbers = List::from_vec(items);
 }
 
 fn slot_of(lit: Lit) -> usize

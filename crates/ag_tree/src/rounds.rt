@@ -16,6 +16,7 @@ ghost use Rattle.ag_tree.specs.Trail.{IsAgainst, literals};
 use crate::choices::Guide;
 use crate::cone::cone_of;
 use crate::occurrences::Occurrences;
+use crate::parts::unlist;
 use crate::propagation::{add_line, pass, propagate};
 use crate::trail::{Step, Trail};
 use ag_base::{Halt, Halted, List, OutOfMemory};
@@ -30,8 +31,11 @@ const MOST_LITERALS: usize = 600_000;
 #[derive(Drop)]
 pub struct Progress {
     pub kernel: Kernel,
-    /// The clauses and the kept facts under the contraries of their literals.
+    /// The clauses, and the kept facts that no later one is a part of, under the contraries of their
+    /// literals.
     pub occurrences: Occurrences,
+    /// The lines of the facts among them, in order.
+    pub listed: Vec<u32>,
     pub trail: Trail,
     pub facts: List<LClause>,
     /// How many literals the facts have.
@@ -94,6 +98,7 @@ impl Progress {
         Ok(Progress {
             kernel: Kernel::new(alloc, query)?,
             occurrences,
+            listed: Vec::new(alloc),
             trail: Trail::new(alloc, atoms)?,
             facts: List::new(alloc),
             literals: 0,
@@ -292,7 +297,8 @@ impl Progress {
     }
 
     /// Keeps the fact, and takes the last choice back. The fact is then still to be looked at, and
-    /// turns that choice round.
+    /// turns that choice round. It is a part of each fact kept since the choice was made: these leave
+    /// the lists.
     fn learn(&mut self, alloc: Global, fact: Fact) -> Result<(), OutOfMemory>
         requires going { IsGoing self.old }
         requires fact { IsConcluded self.old fact }
@@ -305,6 +311,14 @@ impl Progress {
         ensures count { OnOk result (length self.new.facts ≡ length self.old.facts + 1) }
     {
         let Fact { lits, number } = fact;
+        unlist(
+            alloc,
+            &self.kernel,
+            &mut self.occurrences,
+            &mut self.listed,
+            &lits,
+        )?;
+        self.listed.push(number)?;
         self.occurrences.add(&lits, number)?;
         self.literals += lits.len();
         self.facts.push(LClause {

@@ -1,4 +1,4 @@
-use Rattle.std.proofs.Common.{◌+◌, List, subst, Contains}
+use Rattle.std.proofs.Common.{List, subst, Contains}
 use Rattle.std.specs.List.{Any}
 use Rattle.std.proofs.lemmas.List.Elements.{AllWithin-more, at_read}
 use Rattle.ag_query.specs.declared.clauses.Lit.{Lit}

@@ -4,7 +4,7 @@ use Rattle.ag_query.specs.declared.clauses.Lit.{Lit}
 use Rattle.ag_query.specs.declared.clauses.LClause.{LClause}
 use Rattle.ag_query.specs.Meaning.{contrary}
 use Rattle.ag_tree.specs.Listing.{listed, slot}
-use Rattle.ag_tree.proofs.Going.{IsAdded}
+use Rattle.ag_tree.proofs.Listing.{IsAdded}
 use Rattle.ag_tree.proofs.Starting.{listed_to_more}
 use Rattle.ag_tree.proofs.rounds.list_clauses.Goals as goal
 

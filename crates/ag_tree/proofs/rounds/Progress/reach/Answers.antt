@@ -29,3 +29,9 @@ pub returns-in-Line-clause-reaches : goal.returns-in-Line-clause-reaches
 returns-in-Line-clause-reaches g c =
     let F : Found → Type 0 = IsFound (g.T.Theory.leaves c.args.theory.now) c.decide.new.kernel c.deref.result.now in
     line_against c.decide.new.kernel c.settle.new.self.trail.steps c.deref.result.now c.in-Line.line (c.deref.ensures.value ∙ c.in_ok-lits.ensures.value) (subst F c.in-Line.is c.in_ok-whole.ensures.found)
+
+pub returns-2-clause-reaches : goal.returns-2-clause-reaches
+returns-2-clause-reaches g c =
+    let F : Found → Type 0 = IsFound (g.T.Theory.leaves c.args.theory.now) c.decide.new.kernel c.deref.result.now in
+    let S : Option ℕ → Type 0 = SettlesAs c.settle.new.self in
+    (subst F c.in-Leaf.is c.in_ok-whole.ensures.found, rest_grown c.settle.new.self c.decide.new.kernel c.in_ok-whole.ensures.grown (subst S c.in_default.is c.in_ok-line.ensures.settles))

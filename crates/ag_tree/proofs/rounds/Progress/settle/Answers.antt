@@ -4,7 +4,6 @@ use Rattle.ag_tree.specs.Going.{IsClauseLine, PassesAs}
 use Rattle.ag_tree.proofs.Drawing.{draws_more}
 use Rattle.ag_tree.proofs.Going.{going_draws, settles_by}
 use Rattle.ag_tree.proofs.rounds.Progress.settle.Goals as goal
-use Rattle.ag_tree.proofs.rounds.Progress.settle.Goals.{In_default}
 
 pub returns-in-Some-clause-going : goal.returns-in-Some-clause-going
 returns-in-Some-clause-going c =

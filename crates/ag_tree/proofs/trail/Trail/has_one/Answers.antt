@@ -1,7 +1,7 @@
-use Rattle.std.proofs.Common.{◌≡◌, ◌∙◌, false, Option, Bool, Some, ap, sym, get_or, Contains}
+use Rattle.std.proofs.Common.{◌∙◌, false, Bool, Some, ap, sym, get_or, Contains}
 use Rattle.std.proofs.lemmas.List.Elements.{Contains-get_or}
 use Rattle.ag_query.specs.declared.clauses.Lit.{Lit}
-use Rattle.ag_tree.specs.Trail.{literals, truth_in}
+use Rattle.ag_tree.specs.Trail.{literals}
 use Rattle.ag_tree.proofs.Lits.{any_at, truth_has}
 use Rattle.ag_tree.proofs.Looking.{beq_true}
 use Rattle.ag_tree.proofs.trail.Trail.has_one.Goals as goal
