@@ -12,6 +12,7 @@ pub mod Carrying
 pub mod Telling
 pub mod Claiming
 pub mod Outs
+pub mod Staying
 pub mod Rows
 pub mod Handing
 pub mod Returning

@@ -25,7 +25,7 @@ AreGood ts n = AllDiffer ts × Each (λ t. t.claim ≤ n) ts
 
 -- publish
 
-cancel-if : (b : Bool) (t : Ticket) → ((if b then record t { is_live = false } else t).claim ≡ t.claim) × ((if b then record t { is_live = false } else t).problem ≡ t.problem) × ((if b then record t { is_live = false } else t).is_live ≡ true → t.is_live ≡ true)
+pub cancel-if : (b : Bool) (t : Ticket) → ((if b then record t { is_live = false } else t).claim ≡ t.claim) × ((if b then record t { is_live = false } else t).problem ≡ t.problem) × ((if b then record t { is_live = false } else t).is_live ≡ true → t.is_live ≡ true)
 cancel-if true t = (refl, refl, λ h. absurd (false≢true h))
 cancel-if false t = (refl, refl, λ h. h)
 
@@ -103,7 +103,7 @@ good-found s seat (Some l) f g = good-claim s seat l (f l refl) g
 
 -- post and give_back
 
-filter-each : (P : Ticket → Type 0) (p : Ticket → Bool) (ts : List Ticket) → Each P ts → Each P (filter p ts)
+pub filter-each : (P : Ticket → Type 0) (p : Ticket → Bool) (ts : List Ticket) → Each P ts → Each P (filter p ts)
 filter-each P p [] h = tt
 filter-each P p (t ∷ ts) h = go (p t) (filter-each P p ts h.1)
   where

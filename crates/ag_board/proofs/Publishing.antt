@@ -1,11 +1,11 @@
 -- How what the store keeps stands for the machine's state once a list is entered.
 use Rattle.std.proofs.Common.{Result, Ok, Err, ◌-◌, ◌≡◌, ◌∙◌, ◌||◌, ◌&&◌, ◌++◌, ◌∷◌, ◌<◌, ◌≤◌, ◌+◌, ◌==◌, [], ℕ, zero, suc, Bool, true, false, not, List, length, map, Option, Some, None, refl, sym, ap, subst, arith, length-append}
 use Rattle.std.proofs.lemmas.Bool.{false≢true, leb-true, leb-false, ltb-false, ne_eqb, and_parts}
-use Rattle.std.proofs.lemmas.List.{map-append, length-map}
+use Rattle.std.proofs.lemmas.List.{map-append, length-map, get_or-map}
 use Rattle.std.proofs.lemmas.List.Sums.{sum_by-append}
 use Rattle.std.proofs.lemmas.List.Concat.{length-flat_map}
 use Rattle.std.proofs.lemmas.Option.{slice_get_within}
-use Rattle.std.specs.Prelude.{OnOk, All, slice_get, if◌then◌else◌, is_none, option_and_then, IfSome, IsSome, unwrap_or, nat_le, nat_lt}
+use Rattle.std.specs.Prelude.{◌≢◌, AllPairs, OnOk, All, slice_get, if◌then◌else◌, is_none, option_and_then, IfSome, IsSome, unwrap_or, nat_le, nat_lt}
 use Rattle.std.specs.Option.{option_map, option_map_or}
 use Rattle.std.specs.List.{list_any, flat_map}
 use Rattle.indexmap.specs.IndexMap.{insert_all}
@@ -17,7 +17,7 @@ use Rattle.ag_board.specs.declared.slot.Out.{Out}
 use Rattle.ag_board.specs.declared.plan.Plan.{Plan}
 use Rattle.ag_board.specs.declared.entry.Published.{Published}
 use Rattle.ag_board.specs.declared.entry.PublishFault.TheVariants as faults
-use Rattle.ag_board.specs.Entries.{PlainEntry, PlainCall, publish, published, Past}
+use Rattle.ag_board.specs.Entries.{PlainEntry, PlainCall, publish, published, Past, plain_list}
 use Rattle.ag_board.specs.Machine.{State, Line, start, state_after, after, same_problem, verdict_of, new_line, after_publish, cancel, is_over, lines, May, reply_of}
 use Rattle.ag_board.specs.Notes.{with_spare, with_entry, nothing, listed_in, posted_in, list_of}
 use Rattle.ag_board.specs.Store.{Enters, entry, BoardState, problems_of, parts_of, pairs_of, places_kept, most_places, most_revisions, most_pairs, most_parts, does_fit, refusal_of}
@@ -29,6 +29,20 @@ use Rattle.ag_board.proofs.Plans.{same_handle, some-same, problems-append, lengt
 use Rattle.ag_board.proofs.Different.{AreApart, apart-different, different-append}
 use Rattle.ag_board.proofs.Planning.{all_of, apart-numbered, or-neither, flip, verdict-new, retired-all, parts-listed, HasNumber}
 use Rattle.ag_board.proofs.Entering.{insert-all, retired-problems, at-in, at-same, retired-rows, lacks, live-after, tickets-after}
+
+-- no two have one key
+abbrev pub HasKeysOnce : List (Key × ProblemDraft) → Type 0
+HasKeysOnce list = AllPairs (λ a b. a.0 ≢ b.0) list
+
+-- the keys are the same where problems are seen by their values
+pub keys-plain : (list : List (Key × Handle)) → AllPairs (λ a b. a.0 ≢ b.0) list → HasKeysOnce (plain_list list)
+keys-plain [] h i j d lt within = absurd (omega arith)
+keys-plain (x ∷ xs) h i j d lt within =
+    let plain : Key × Handle → Key × ProblemDraft = λ k. (k.0, k.1.value) in
+    let n = length-map (x ∷ xs) plain in
+    let a = ap (λ (k : Key × ProblemDraft). k.0) (get_or-map plain (x ∷ xs) i x d (omega (arith, n, lt, within))) in
+    let b = ap (λ (k : Key × ProblemDraft). k.0) (get_or-map plain (x ∷ xs) j x d (omega (arith, n, within))) in
+    λ e. h i j x lt (omega (arith, n, within)) (sym a ∙ (e ∙ b))
 
 -- a list that isn't refused
 
@@ -390,16 +404,16 @@ Stands h room claims is_closed is_stopped revisions pairs parts rows outs ns las
 abbrev pub kept : Past → BoardState
 kept h = record { state = state_after start h.entries; history = h.entries; spare = h.spare }
 
-past-entered : (h : Past) (room claims : ℕ) (list : List (Key × ProblemDraft)) (e : PlainEntry) → IsPast h room claims → IsAccepted (kept h) list
+past-entered : (h : Past) (room claims : ℕ) (list : List (Key × ProblemDraft)) (e : PlainEntry) → IsPast h room claims → IsAccepted (kept h) list → HasKeysOnce list
     → e.call ≡ publish list → e.reply ≡ reply_of (state_after start h.entries) e.call → state_after start (h.entries ++ e ∷ []) ≡ after_publish (state_after start h.entries) list
     → IsPast (record { entries = h.entries ++ e ∷ []; spare = h.spare }) room claims
-past-entered h room claims list e k a c r t =
+past-entered h room claims list e k a once c r t =
     let s = state_after start h.entries in
     let l = length-append h.entries (e ∷ []) in
     let m = ap places_kept t ∙ kept-entered s list in
     let M = λ (x : PlainCall). May s e.seat x in
     record {
-      legal = legal-snoc start h.entries e k.legal (subst M (sym c) a.open_still) r;
+      legal = legal-snoc start h.entries e k.legal (subst M (sym c) (a.open_still, once)) r;
       places = omega (arith, l, a.places);
       promised = omega (arith, m, k.promised);
       enough = k.enough;
@@ -408,10 +422,10 @@ past-entered h room claims list e k a c r t =
 
 pub stands-entered : (h : Past) (room claims : ℕ) (is_closed is_stopped : Bool) (revisions pairs parts : ℕ) (rows : List Row) (outs : List Out) (ns0 : List ℕ) (last0 next0 : ℕ)
     (list : List (Key × ProblemDraft)) (p : Plan) (e : PlainEntry) → Stands h room claims is_closed is_stopped revisions pairs parts rows outs ns0 last0 next0
-    → IsPlan (state_after start h.entries) list p → IsAccepted (kept h) list → length list ≤ 1024 → e.call ≡ publish list → e.reply ≡ reply_of (state_after start h.entries) e.call
+    → IsPlan (state_after start h.entries) list p → IsAccepted (kept h) list → length list ≤ 1024 → HasKeysOnce list → e.call ≡ publish list → e.reply ≡ reply_of (state_after start h.entries) e.call
     → Stands (record { entries = h.entries ++ e ∷ []; spare = h.spare }) room claims is_closed is_stopped (revisions + 1) (pairs + length p.numbers.items) (parts + p.parts)
     (rows_of rows p.fresh.entries outs p.handles.items) (outs_retired outs p.handles.items) p.numbers.items (length h.entries) 0
-stands-entered h room claims is_closed is_stopped revisions pairs parts rows outs ns0 last0 next0 list p e k plan a few c r =
+stands-entered h room claims is_closed is_stopped revisions pairs parts rows outs ns0 last0 next0 list p e k plan a few once c r =
     let s = state_after start h.entries in
     let es = h.entries in
     let fresh = p.fresh.entries in
@@ -426,7 +440,7 @@ stands-entered h room claims is_closed is_stopped revisions pairs parts rows out
     let O : State → Type 0 = λ x. AreOut x (rows_of rows fresh outs hs) (outs_retired outs hs) in
     let L : State → Type 0 = λ x. IsLast x (es ++ e ∷ []) (rows_of rows fresh outs hs) ns (length es) 0 in
     let u = sym t in (
-      past-entered h room claims list e k.0 a c r t,
+      past-entered h room claims list e k.0 a once c r t,
       subst M u (marked-entered s list claims is_closed is_stopped k.1),
       subst Z u (sized-entered s es rows outs list fresh ns hs (kept h) revisions pairs parts p.parts m refl a k.2 plan.parts),
       subst T u (table-entered s es rows outs list fresh ns hs e m a.few_pairs),
@@ -474,9 +488,9 @@ parts-entered s es rows outs list p t o k =
     omega (arith, a, k.parts)
 
 -- an event, whichever of two equal answers is entered
-pub enters-published : (h new : Past) (seat : ℕ) (list : List (Key × ProblemDraft)) (p : Plan) → IsPlan (state_after start h.entries) list p → IsAccepted (kept h) list
+pub enters-published : (h new : Past) (seat : ℕ) (list : List (Key × ProblemDraft)) (p : Plan) → IsPlan (state_after start h.entries) list p → IsAccepted (kept h) list → HasKeysOnce list
     → new ≡ record { entries = h.entries ++ entry seat (publish list) (published p.entered) ∷ []; spare = h.spare } → Enters (kept h) (kept new) seat (publish list) (published p.answer)
-enters-published h new seat list p k a e =
+enters-published h new seat list p k a once e =
     let N : Past → Type 0 = λ x. Enters (kept h) (kept x) seat (publish list) (published p.answer) in
     let R : Published → Type 0 = λ r. Enters (kept h) (kept (record { entries = h.entries ++ entry seat (publish list) (published r) ∷ []; spare = h.spare })) seat (publish list) (published p.answer) in
-    subst N (sym e) (subst R (k.answer ∙ sym k.entered) (enters-snoc h.entries h.spare h.spare seat (publish list) (published p.answer) a.open_still (ap published k.answer)))
+    subst N (sym e) (subst R (k.answer ∙ sym k.entered) (enters-snoc h.entries h.spare h.spare seat (publish list) (published p.answer) (a.open_still, once) (ap published k.answer)))

@@ -9,6 +9,7 @@ use Rattle.ag_board.specs.Entries.{PlainReply, work, busy, settled, over}
 use Rattle.ag_board.specs.Machine.{State}
 use Rattle.ag_board.specs.Store.{IsOut}
 
+-- the reply that an answer to a claim stands for
 abbrev pub claimed_reply : Claimed → PlainReply
 claimed_reply (claims.Work t) = work t.claim t.revision t.problem
 claimed_reply (claims.Busy n) = busy n

@@ -17,6 +17,7 @@ use Rattle.ag_board.specs.declared.entry.Reply.{Reply}
 use Rattle.ag_board.specs.declared.entry.Reply.TheVariants as replies
 use Rattle.ag_board.specs.declared.entry.Entry.{Entry}
 
+-- a call; a claim is named by its number
 pub data PlainCall : Type 0 where
   publish : List (Key × ProblemDraft) → PlainCall
   claim : PlainCall
@@ -26,6 +27,7 @@ pub data PlainCall : Type 0 where
   close : PlainCall
   stop : PlainCall
 
+-- what the store answers
 pub data PlainReply : Type 0 where
   published : Published → PlainReply
   work : ℕ → ℕ → ProblemDraft → PlainReply
@@ -39,6 +41,7 @@ pub data PlainReply : Type 0 where
   still_open : ℕ → PlainReply
   stopped : PlainReply
 
+-- a call from a seat, and its reply
 pub record PlainEntry : Type 0 where
   pub seat : ℕ
   pub call : PlainCall
@@ -61,6 +64,7 @@ plain_verdicts verdicts = map (λ v. v.value) verdicts
 abbrev pub plain_lines : List (Key × Option (Arc Verdict Global)) → List (Key × Option Verdict)
 plain_lines lines = map {B = Key × Option Verdict} (λ l. (l.0, option_map (λ v. v.value) l.1)) lines
 
+-- the call, by the values of its problems and verdicts
 abbrev pub plain_call : Call → PlainCall
 plain_call (calls.Publish list) = publish (plain_list list)
 plain_call calls.Claim = claim
@@ -70,6 +74,7 @@ plain_call calls.Report = report
 plain_call calls.Close = close
 plain_call calls.Stop = stop
 
+-- the reply, by the values of its problems and verdicts
 abbrev pub plain_reply : Reply → PlainReply
 plain_reply (replies.Published p) = published p
 plain_reply (replies.Work number revision problem) = work number revision problem.value
@@ -83,5 +88,6 @@ plain_reply (replies.Closed t) = closed t
 plain_reply (replies.StillOpen n) = still_open n
 plain_reply replies.Stopped = stopped
 
+-- the entry, by the values of its problems and verdicts
 abbrev pub plain_entry : Entry → PlainEntry
 plain_entry e = record { seat = e.seat; call = plain_call e.call; reply = plain_reply e.reply }

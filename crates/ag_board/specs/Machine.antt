@@ -1,5 +1,5 @@
 -- The verdict store as a machine: its state, which calls may come, and what each answers and leaves.
-use Rattle.std.specs.Prelude.{◌≡◌, ◌+◌, ◌==◌, ◌&&◌, ◌||◌, ℕ, Bool, true, false, not, if◌then◌else◌, List, [], ◌∷◌, ◌++◌, length, map, filter, find, count_by, unwrap_or, Option, Some, None, is_some, is_none, IsSomeAnd}
+use Rattle.std.specs.Prelude.{◌≡◌, ◌≢◌, ◌+◌, ◌==◌, ◌&&◌, ◌||◌, ℕ, Bool, true, false, not, if◌then◌else◌, List, [], ◌∷◌, ◌++◌, length, map, filter, find, count_by, unwrap_or, Option, Some, None, is_some, is_none, IsSomeAnd, AllPairs}
 use Rattle.std.specs.List.{list_any, flat_map}
 use Rattle.ag_stream.specs.declared.problem.ProblemDraft.{ProblemDraft}
 use Rattle.ag_stream.specs.contracts.problem.ProblemDraftPartialEq.TheImpl as drafts
@@ -28,6 +28,7 @@ pub record Ticket : Type 0 where
   pub problem : ProblemDraft
   pub is_live : Bool
 
+-- the revisions in order, the claims that are out, how many claims there were, and whether it was closed or stopped
 pub record State : Type 0 where
   pub revisions : List (List Line)
   pub tickets : List Ticket
@@ -35,6 +36,7 @@ pub record State : Type 0 where
   pub is_closed : Bool
   pub is_stopped : Bool
 
+-- the state of a new store
 abbrev pub start : State
 start = record { revisions = []; tickets = []; claims = 0; is_closed = false; is_stopped = false }
 
@@ -61,6 +63,7 @@ verdict_of s p = verdict_in (flat_map (λ r. r) s.revisions) p
 
 -- publish
 
+-- the line of a key that is published, with the verdict that its problem has already
 abbrev pub new_line : State → Key × ProblemDraft → Line
 new_line s k = record { key = k.0; problem = k.1; verdict = verdict_of s k.1 }
 
@@ -68,9 +71,11 @@ new_line s k = record { key = k.0; problem = k.1; verdict = verdict_of s k.1 }
 abbrev pub is_cancelled : List (Key × ProblemDraft) → Ticket → Bool
 is_cancelled list t = t.is_live && not (list_any (λ k. same_problem k.1 t.problem) list)
 
+-- the ticket, no longer live where the list cancels it
 abbrev pub cancel : List (Key × ProblemDraft) → Ticket → Ticket
 cancel list t = if is_cancelled list t then record t { is_live = false } else t
 
+-- the list is the last revision, and what it lacks is cancelled
 abbrev pub after_publish : State → List (Key × ProblemDraft) → State
 after_publish s list =
     record s {
@@ -78,6 +83,7 @@ after_publish s list =
       tickets = map (cancel list) s.tickets;
     }
 
+-- the revision's number and size, how many of its keys have a verdict at once, and the claims cancelled
 abbrev pub publish_reply : State → List (Key × ProblemDraft) → Published
 publish_reply s list =
     record {
@@ -96,9 +102,11 @@ is_undecided l = is_none l.verdict
 abbrev pub is_free : State → Line → Bool
 is_free s l = is_undecided l && not (list_any (λ t. t.is_live && same_problem t.problem l.problem) s.tickets)
 
+-- how many keys of the last revision have no verdict
 abbrev pub undecided : State → ℕ
 undecided s = count_by is_undecided (lines s)
 
+-- the ticket of the next claim, for that line
 abbrev pub claim_ticket : State → ℕ → Line → Ticket
 claim_ticket s seat l =
     record {
@@ -109,25 +117,31 @@ claim_ticket s seat l =
       is_live = true;
     }
 
+-- the answer to a claim, by the line that it found
 abbrev pub claim_found : State → Option Line → PlainReply
 claim_found s (Some l) = work (s.claims + 1) (length s.revisions) l.problem
 claim_found s None = if undecided s == 0 then settled else busy (undecided s)
 
+-- the first free line is handed out
 abbrev pub claim_reply : State → PlainReply
 claim_reply s = if is_over s then over else claim_found s (find (is_free s) (lines s))
 
+-- where a line was found, its ticket is out too
 abbrev pub after_found : State → ℕ → Option Line → State
 after_found s seat (Some l) = record s { tickets = s.tickets ++ claim_ticket s seat l ∷ []; claims = s.claims + 1 }
 after_found s seat None = s
 
+-- what a claim leaves; nothing changes where the store is closed or stopped
 abbrev pub after_claim : State → ℕ → State
 after_claim s seat = if is_over s then s else after_found s seat (find (is_free s) (lines s))
 
 -- post and give_back
 
+-- the ticket that is out under a claim number
 abbrev pub ticket_of : State → ℕ → Option Ticket
 ticket_of s number = find (λ t. t.claim == number) s.tickets
 
+-- the tickets but that one
 abbrev pub without : ℕ → List Ticket → List Ticket
 without number tickets = filter (λ t. not (t.claim == number)) tickets
 
@@ -135,9 +149,11 @@ without number tickets = filter (λ t. not (t.claim == number)) tickets
 abbrev pub decided_line : ProblemDraft → Verdict → Line → Line
 decided_line p v l = if same_problem l.problem p then record l { verdict = Some v } else l
 
+-- every line of that problem gets the verdict
 abbrev pub decided : ProblemDraft → Verdict → List (List Line) → List (List Line)
 decided p v revisions = map (map (decided_line p v)) revisions
 
+-- the ticket is in, and its problem has the verdict, if it had none
 abbrev pub after_post : State → ℕ → Verdict → Option Ticket → State
 after_post s number v None = s
 after_post s number v (Some t) =
@@ -151,6 +167,7 @@ abbrev pub post_reply : State → Option Ticket → PlainReply
 post_reply s None = posted posts.Already
 post_reply s (Some t) = posted (if is_some (verdict_of s t.problem) then posts.Already else posts.Kept)
 
+-- whether the last revision still has the problem
 abbrev pub give_back_reply : State → Option Ticket → PlainReply
 give_back_reply s None = given_back given.Alive
 give_back_reply s (Some t) =
@@ -159,26 +176,32 @@ give_back_reply s (Some t) =
 
 -- close
 
+-- the verdict is a proof
 abbrev pub is_proved : Verdict → Bool
 is_proved (verdicts.Proved k) = true
 is_proved _ = false
 
+-- the verdict is a run in which the claim fails
 abbrev pub is_refuted : Verdict → Bool
 is_refuted (verdicts.Refuted run) = true
 is_refuted _ = false
 
+-- the verdict is a run of the premises
 abbrev pub is_consistent : Verdict → Bool
 is_consistent (verdicts.Consistent run) = true
 is_consistent _ = false
 
+-- the verdict is that there is no run of the premises
 abbrev pub is_inconsistent : Verdict → Bool
 is_inconsistent verdicts.Inconsistent = true
 is_inconsistent _ = false
 
+-- the verdict is that a limit was spent
 abbrev pub is_unknown : Verdict → Bool
 is_unknown (verdicts.Unknown depth why) = true
 is_unknown _ = false
 
+-- there is a verdict, and it passes a test
 abbrev pub passes : (Verdict → Bool) → Option Verdict → Bool
 passes test None = false
 passes test (Some v) = test v
@@ -187,6 +210,7 @@ passes test (Some v) = test v
 abbrev pub count_of : (Verdict → Bool) → List Line → ℕ
 count_of test ls = count_by (λ l. passes test l.verdict) ls
 
+-- how many lines of the last revision have a verdict of each kind
 abbrev pub tally : State → Tally
 tally s =
     record {
@@ -200,9 +224,9 @@ tally s =
 
 -- the whole machine
 
--- the call may come from that seat
+-- the call may come from that seat. A list has no key twice
 abbrev pub May : State → ℕ → PlainCall → Type 0
-May s seat (publish list) = is_over s ≡ false
+May s seat (publish list) = (is_over s ≡ false) × AllPairs (λ a b. a.0 ≢ b.0) list
 May s seat claim = Unit {0}
 May s seat (post number v) = IsSomeAnd (ticket_of s number) (λ t. (t.seat ≡ seat) × IsTrueOf t.problem v)
 May s seat (give_back number) = IsSomeAnd (ticket_of s number) (λ t. t.seat ≡ seat)
@@ -210,6 +234,7 @@ May s seat report = Unit {0}
 May s seat close = is_over s ≡ false
 May s seat stop = is_over s ≡ false
 
+-- what the call is answered
 abbrev pub reply_of : State → PlainCall → PlainReply
 reply_of s (publish list) = published (publish_reply s list)
 reply_of s claim = claim_reply s
@@ -219,6 +244,7 @@ reply_of s report = reported (length s.revisions) (map {B = Key × Option Verdic
 reply_of s close = if undecided s == 0 then closed (tally s) else still_open (undecided s)
 reply_of s stop = stopped
 
+-- what the call from that seat leaves
 abbrev pub after : State → ℕ → PlainCall → State
 after s seat (publish list) = after_publish s list
 after s seat claim = after_claim s seat

@@ -9,6 +9,7 @@ use Rattle.ag_board.specs.Tickets.{Handed}
 use Rattle.ag_board.specs.Entries.{PlainCall, PlainReply, PlainEntry}
 use Rattle.ag_board.specs.Machine.{State, Ticket, start, same_problem, is_over, May, reply_of, after, ticket_of, IsLegal, state_after}
 
+-- the state, the entries that led there, and how many places are promised for more
 pub record BoardState : Type 0 where
   pub state : State
   pub history : List PlainEntry
@@ -84,6 +85,7 @@ pub record IsKept (k : BoardState) : Type 0 where
   pub pairs : pairs_of k.state ≤ most_pairs
   pub parts : parts_of (problems_of k.state) ≤ most_parts
 
+-- the entry of a call from a seat with its reply
 abbrev pub entry : ℕ → PlainCall → PlainReply → PlainEntry
 entry seat call reply = record { seat = seat; call = call; reply = reply }
 
@@ -94,12 +96,12 @@ pub record Enters (old new : BoardState) (seat : ℕ) (call : PlainCall) (reply 
   pub state : new.state ≡ after old.state seat call
   pub history : new.history ≡ old.history ++ entry seat call reply ∷ []
 
--- the ticket is what a store has out under its number. Two stores whose entries so far agree on a claim have equal
--- tickets, and each takes the other's
+-- the ticket has this seat, revision and problem
 pub record IsSame (t : Handed) (u : Ticket) : Type 0 where
   pub seat : u.seat ≡ t.seat
   pub revision : u.revision ≡ t.revision
   pub problem : u.problem ≡ t.problem
 
+-- the store has such a ticket out under its number; a ticket of another store that is equal to it counts too
 abbrev pub IsOut : State → Handed → Type 0
 IsOut s t = IsSomeAnd (ticket_of s t.claim) (IsSame t)

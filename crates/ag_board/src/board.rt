@@ -6,7 +6,7 @@
 ghost use Rattle.std.specs.Prelude.{◌≡◌, ◌+◌, ◌≤◌, ◌≢◌, false, IfOk, IfErr, OnOk, OnErr, Some, None, AllPairs, length};
 ghost use Rattle.ag_verdict.specs.Verdicts.{IsTrueOf};
 ghost use Rattle.ag_board.specs.Entries.{publish as publish_call, claim as claim_call, post as post_call, give_back as give_back_call, report as report_call, close as close_call, stop as stop_call, published, posted, given_back, reported, closed, still_open, stopped, plain_list, plain_lines};
-ghost use Rattle.ag_board.specs.Machine.{claim_reply, reply_of, is_over};
+ghost use Rattle.ag_board.specs.Machine.{claim_reply, reply_of, is_over, IsLegal};
 ghost use Rattle.ag_board.specs.Store.{IsKept, Enters, HasTwo, IsFull, IsOut, empty, refusal_of};
 ghost use Rattle.ag_board.specs.Inside.{find_place};
 ghost use Rattle.ag_board.specs.Planned.{IsPlan};
@@ -137,7 +137,8 @@ impl Board {
 
     /// Accepts a list as the next revision. Where an earlier revision has an equal problem with a verdict,
     /// the new key starts with that verdict, and live claims on problems that the list lacks are
-    /// cancelled. All memory is taken before anything changes.
+    /// cancelled. A list has at most 1,024 keys, all different. All memory is taken before anything
+    /// changes.
     pub fn publish(
         &mut self,
         seat: u32,
@@ -289,15 +290,18 @@ impl Board {
         self.revisions
     }
 
-    /// The history so far.
+    /// The history so far, which is legal.
     pub fn history(&self) -> &History
-        ensures { result.now.entries ≡ self.now.history }
+        ensures entries { result.now.entries ≡ self.now.history }
+        ensures legal { IsLegal result.now.entries }
     {
         &self.history
     }
 
+    /// The history of all that came, which is legal, once the store isn't needed any more.
     pub fn into_history(self) -> History
-        ensures { result.entries ≡ self.history }
+        ensures entries { result.entries ≡ self.history }
+        ensures legal { IsLegal result.entries }
     {
         let Board { history, .. } = self;
         history
@@ -429,6 +433,7 @@ impl Board {
     /// Enters a list as it was planned, after the last of its memory is taken.
     fn enter_list(&mut self, seat: u32, plan: Plan) -> Result<Published, PublishFault>
         requires few { length (plain_list plan.shared) ≤ 1024 }
+        requires different { AllPairs (λ a b. a.0 ≢ b.0) (plain_list plan.shared) }
         requires planned { IsPlan self.old.state (plain_list plan.shared) plan }
         requires accepted { refusal_of self.old (plain_list plan.shared) ≡ None }
         ensures entry { IfOk result (λ r.

@@ -24,7 +24,7 @@ pub enum Call {
 
 impl Call {
     /// The same call once more. The texts, problems and verdicts in it aren't copied.
-    pub fn share(&self, alloc: Global) -> Result<Call, OutOfMemory>
+    pub(crate) fn share(&self, alloc: Global) -> Result<Call, OutOfMemory>
         ensures { IfOk result (λ call. plain_call call ≡ plain_call self.now) }
     {
         match self {
@@ -86,7 +86,7 @@ pub struct Published {
 
 impl Published {
     /// The same answer once more.
-    pub fn share(&self, alloc: Global) -> Result<Published, OutOfMemory>
+    pub(crate) fn share(&self, alloc: Global) -> Result<Published, OutOfMemory>
         ensures { IfOk result (λ p. p ≡ self.now) }
     {
         let mut cancelled = List::new(alloc);
@@ -136,7 +136,7 @@ pub struct Report {
 
 impl Report {
     /// The same report once more. The texts and verdicts in it aren't copied.
-    pub fn share(&self, alloc: Global) -> Result<Report, OutOfMemory>
+    pub(crate) fn share(&self, alloc: Global) -> Result<Report, OutOfMemory>
         ensures revision { IfOk result (λ r. r.revision ≡ self.now.revision) }
         ensures lines { IfOk result (λ r. plain_lines r.lines ≡ plain_lines self.now.lines) }
     {
@@ -177,7 +177,7 @@ fn share_list(
 
 impl Reply {
     /// The same reply once more. The texts, problems and verdicts in it aren't copied.
-    pub fn share(&self, alloc: Global) -> Result<Reply, OutOfMemory>
+    pub(crate) fn share(&self, alloc: Global) -> Result<Reply, OutOfMemory>
         ensures { IfOk result (λ reply. plain_reply reply ≡ plain_reply self.now) }
     {
         match self {

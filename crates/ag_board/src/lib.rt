@@ -21,5 +21,7 @@ pub use entry::{
     ReserveFault, StillOpen, Tally,
 };
 pub use history::History;
-pub use laws::{equal_problems_agree, problems_are_compared, verdicts_are_true};
+pub use laws::{
+    equal_problems_agree, problems_are_compared, tickets_rise, tickets_stay, verdicts_are_true,
+};
 pub use ticket::{Claimed, Ticket};

@@ -44,12 +44,14 @@ impl Ticket {
         self.claim
     }
 
+    /// The seat that made the claim.
     pub fn seat(&self) -> u32
         ensures { result ≡ self.now.seat }
     {
         self.seat
     }
 
+    /// The revision under which the problem was handed out.
     pub fn revision(&self) -> u32
         ensures { result ≡ self.now.revision }
     {

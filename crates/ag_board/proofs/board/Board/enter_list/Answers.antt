@@ -85,7 +85,7 @@ invariant_of-self-2 c =
     let e = entry c.args.seat (publish list) (published c.args.plan.entered) in
     let put = put-after h c.promise.new.self c.put.new.self e c.in_ok-promise.ensures.ok c.put.ensures in
     let k = stands-entered h _ c.self.inside.claims c.self.inside.is_closed c.self.inside.is_stopped c.self.inside.revisions c.self.inside.pairs c.self.inside.parts rows outs
-    c.self.inside.numbers.items c.self.inside.last c.self.inside.next list c.args.plan e i plan a c.requires.few refl (ap published plan.entered) in
+    c.self.inside.numbers.items c.self.inside.last c.self.inside.next list c.args.plan e i plan a c.requires.few c.requires.different refl (ap published plan.entered) in
     stands-same _ c.put.new.self _ _ c.self.inside.claims c.self.inside.is_closed c.self.inside.is_stopped (c.self.inside.revisions + 1) _ (c.self.inside.pairs + c.len-2.result) (c.self.inside.parts + c.args.plan.parts)
     _ c.retire.new.table.entries _ c.retire.new.outs.items c.args.plan.numbers.items _ c.len-self-inside.result 0
     put c.retire.ensures.room (ap (λ n. c.self.inside.pairs + n) (c.len-2.ensures ∙ c.args.plan.numbers.ok.0))
@@ -107,4 +107,4 @@ returns-clause-entry c =
     let e = entry c.args.seat (publish list) (published c.args.plan.entered) in
     let put = put-after h c.promise.new.self c.put.new.self e c.in_ok-promise.ensures.ok c.put.ensures in
     let O : BoardState → Type 0 = λ k. Enters k (kept c.put.new.self) c.args.seat (publish list) (published c.args.plan.answer) in
-    subst O c.self.view_is (enters-published h c.put.new.self c.args.seat list c.args.plan plan a put)
+    subst O c.self.view_is (enters-published h c.put.new.self c.args.seat list c.args.plan plan a c.requires.different put)
