@@ -6,6 +6,8 @@
 #[cfg(test)]
 mod adapters;
 #[cfg(test)]
+mod files;
+#[cfg(test)]
 mod histories;
 #[cfg(test)]
 mod runs;

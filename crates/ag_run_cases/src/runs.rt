@@ -8,12 +8,12 @@ use std::test::Fail;
 use std::thread::Threads;
 
 /// A package in canonical form, which may be checked.
-const PACKAGE: &str =
+pub const PACKAGE: &str =
     "package P\npublic\nwith Base_Types;\nsystem S\nfeatures\na : in data port Base_Types::Boolean;\n\
 b : in data port Base_Types::Boolean;\no : out data port Base_Types::Boolean;\nannex agree {**\n\
 guarantee \"g\" : true;\n**};\nend S;\nsystem implementation S.i\nannex agree {**\nassign o = a;\n**};\nend S.i;\nend P;\n";
 
-const PROVED: &str = "revision 1: 2 obligations, 0 carried, 0 cancelled
+pub const PROVED: &str = "revision 1: 2 obligations, 0 carried, 0 cancelled
 settled 1
 report 1
 P::S.i guarantee 1 \"g\": proved k=1
@@ -355,33 +355,6 @@ fn each_write_may_fail(rt: HostRuntime) -> Result<(), Fail> {
             (0, *n),
             4096,
             wanted,
-        )?;
-    }
-    Ok(())
-}
-
-#[test]
-fn tells_its_usage(rt: HostRuntime) -> Result<(), Fail> {
-    let usage = "usage: agreec check -\n";
-    let rows: [&[&str]; 8] = [
-        &[],
-        &["check"],
-        &["check", "x.aadl"],
-        &["check", "-", "-"],
-        &["check", "-", "x"],
-        &["print"],
-        &["print", "x"],
-        &["print", "-", "-"],
-    ];
-    for words in &rows {
-        expect(
-            &rt,
-            rt.alloc(),
-            *words,
-            PACKAGE.as_bytes(),
-            (1, 0),
-            64,
-            (usage, Status::Usage, 0),
         )?;
     }
     Ok(())

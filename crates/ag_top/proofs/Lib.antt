@@ -11,7 +11,6 @@ mod Publishing
 mod Checking
 mod Turns
 mod Reading
-mod Prints
 mod OnePrint
 mod EachPrint
 mod Tops

@@ -1,13 +1,16 @@
--- The words of a command, and the ends of a text.
-use Rattle.std.proofs.Common.{◌≡◌, ◌⊎◌, ◌∙◌, ◌<◌, ◌≤◌, ◌∷◌, [], ℕ, List, length, Option, sym, ap, arith, get_or, inl, inr}
+-- The ends of a text, and which words ask for what.
+use Rattle.std.proofs.Common.{◌≡◌, ◌⊎◌, ◌∙◌, ◌-◌, ◌<◌, ◌≤◌, ◌∷◌, [], ℕ, List, length, take, drop, Option, sym, ap, subst, arith, get_or, inl, inr}
+use Rattle.std.proofs.lemmas.Bool.{cases_eq}
+use Rattle.std.proofs.lemmas.List.{take_all}
 use Rattle.ag_base.specs.declared.status.Status.{Status}
 use Rattle.ag_base.specs.declared.status.Status.TheVariants as statuses
 use Rattle.ag_base.specs.declared.limits.Limits.{Limits}
 use Rattle.ag_board.specs.Entries.{PlainEntry}
 use Rattle.ag_top.specs.Commands.{IsUsual}
+use Rattle.ag_top.specs.Files.{Outside}
+use Rattle.ag_top.specs.Outcome.{IsFileCut, IsNothing, IsUnfinished}
 use Rattle.ag_top.specs.Stages.{IsEndOfCheck, IsEndOfText}
-use Rattle.ag_top.specs.Words.{IsCheck, IsTextOf}
-use Rattle.ag_top.specs.Outcome.{IsAnswer, IsTextAnswer, IsTextRefused, IsTextCut, IsTextBroken, IsBroken, IsRefusal, IsUnfinished, IsNothing}
+use Rattle.ag_top.specs.Words.{IsCheck, source_name}
 
 -- a list of two
 pub two_items : (ws : List (List ℕ)) (a b : List ℕ) → 2 ≤ length ws → length ws < 3 → a ≡ get_or ws 0 a → b ≡ get_or ws 1 b → ws ≡ a ∷ b ∷ []
@@ -16,9 +19,9 @@ two_items (x ∷ []) a b l u e f = absurd (omega (arith, l))
 two_items (x ∷ y ∷ []) a b l u e f = let p = sym e in let q = sym f in cc
 two_items (x ∷ y ∷ z ∷ ws) a b l u e f = absurd (omega (arith, u))
 
--- its items are what they are
-pub same_items : (a b x y : List ℕ) → a ∷ b ∷ [] ≡ x ∷ y ∷ [] → (a ≡ x) × (b ≡ y)
-same_items a b x y e = (ap (λ (ws : List (List ℕ)). get_or ws 0 a) e, ap (λ (ws : List (List ℕ)). get_or ws 1 b) e)
+-- what is left of a list without its first item
+pub rest_is : (ws : List (List ℕ)) (w : List ℕ) (r : List (List ℕ)) → ws ≡ w ∷ r → take (length ws - 1) (drop 1 ws) ≡ r
+rest_is ws w r e = subst (λ (xs : List (List ℕ)). take (length xs - 1) (drop 1 xs) ≡ r) (sym e) (take_all (length (w ∷ r) - 1) r (omega arith))
 
 -- an end of a check is an end of a text
 pub end_of_text : (s : Status) → IsEndOfCheck s → IsEndOfText s
@@ -36,43 +39,6 @@ end_of_text statuses.SessionRefused e = absurd e
 pub is_no_fault : (s : Status) → s ≡ statuses.ModelRefused → s ≡ statuses.WriteFault → ⊥
 is_no_fault s e f = let x = sym e ∙ f in cc
 
--- what was read is a text that was refused
-pub refusal_of : (words : List (List ℕ)) (left : Option (List ℕ)) (text : List ℕ) (history : List PlainEntry) (before now : Option (List ℕ)) → IsCheck words → IsTextOf left text
-    → length text ≤ 4194304 → IsTextRefused text history before now → IsRefusal words left history before now
-refusal_of words left text history before now w r few h = record {
-  command = w;
-  text = text;
-  read = r;
-  cause = inr (few, h.none, (h.place, h.inside, h.written));
-  empty = h.empty;
-}
-
--- what was read is a text whose check was cut short, if it was begun
-pub unfinished_of : (l : Limits) → IsUsual l → (words : List (List ℕ)) (left : Option (List ℕ)) (text : List ℕ) (history : List PlainEntry) (before now : Option (List ℕ)) → IsCheck words → IsTextOf left text
-    → length text ≤ 4194304 → IsNothing history before now ⊎ IsTextCut l text history before now → IsNothing history before now ⊎ IsUnfinished words left history before now
-unfinished_of l u words left text history before now w r few (inl h) = inl h
-unfinished_of l u words left text history before now w r few (inr h) = inr record {
-  command = w;
-  text = text;
-  read = r;
-  few = few;
-  declared = h.declared;
-  reads = h.reads;
-  limits = l;
-  usual = u;
-  cut = h.cut;
-}
-
--- of what a text gives the first bytes were written
-pub broken_of : (l : Limits) → IsUsual l → (words : List (List ℕ)) (left : Option (List ℕ)) (text : List ℕ) (history : List PlainEntry) (before now : Option (List ℕ)) → IsCheck words → IsTextOf left text
-    → length text ≤ 4194304 → IsTextBroken l text history before now → IsBroken words left history before now
-broken_of l u words left text history before now w r few h = inr (inl record {
-  command = w;
-  text = text;
-  read = r;
-  cause = inr (few, (l, u, h));
-})
-
 -- a refusal is no fault
 pub is_no_write_fault : statuses.ModelRefused ≡ statuses.WriteFault → ⊥
 is_no_write_fault e = cc
@@ -81,17 +47,26 @@ is_no_write_fault e = cc
 pub usage_is_no_write_fault : statuses.Usage ≡ statuses.WriteFault → ⊥
 usage_is_no_write_fault e = cc
 
--- what was read is a text whose check was answered
-pub answer_of : (l : Limits) → IsUsual l → (words : List (List ℕ)) (left : Option (List ℕ)) (text : List ℕ) (history : List PlainEntry) (status : Status) (before now : Option (List ℕ)) → IsCheck words → IsTextOf left text
-    → length text ≤ 4194304 → IsTextAnswer l text history status before now → IsAnswer words left history status before now
-answer_of l u words left text history status before now w r few h = record {
-  command = w;
-  text = text;
-  read = r;
-  few = few;
-  declared = h.declared;
-  reads = h.reads;
-  limits = l;
-  usual = u;
-  answer = h.answer;
-}
+one_byte : (b : ℕ) → (b ≡ 45) ⊎ (b ≡ 45 → ⊥) → (b ∷ [] ≡ source_name) ⊎ (b ∷ [] ≡ source_name → ⊥)
+one_byte b (inl e) = inl (ap (λ (x : ℕ). x ∷ []) e)
+one_byte b (inr other) = inr (λ e. other (ap (λ (xs : List ℕ). get_or xs 0 b) e))
+
+-- a name is the source's, or it isn't
+pub is_source : (name : List ℕ) → (name ≡ source_name) ⊎ (name ≡ source_name → ⊥)
+is_source [] = inr (λ e. cc)
+is_source (b ∷ []) = one_byte b (cases_eq b 45)
+is_source (b ∷ c ∷ cs) = inr (λ e. let l = ap (λ (xs : List ℕ). length xs) e in omega (arith, l))
+
+unless_other : {A : Type 0} (name : List ℕ) → (name ≡ source_name) ⊎ (name ≡ source_name → ⊥) → ((name ≡ source_name → ⊥) → ⊥) → (name ≡ source_name → A) → A
+unless_other name (inl e) asked h = h e
+unless_other name (inr other) asked h = absurd (asked other)
+
+-- where no other file is asked for, the name is the source's
+pub unless_source : {A : Type 0} (name : List ℕ) → ((name ≡ source_name → ⊥) → ⊥) → (name ≡ source_name → A) → A
+unless_source name asked h = unless_other name (is_source name) asked h
+
+-- nothing came of it, or the check of the file that the words name was cut short
+pub unfinished_of : (l : Limits) → IsUsual l → (words : List (List ℕ)) (o : Outside) (name : List ℕ) (history : List PlainEntry) (before now : Option (List ℕ)) → IsCheck words name
+    → IsNothing history before now ⊎ IsFileCut l o name history before now → IsNothing history before now ⊎ IsUnfinished words o history before now
+unfinished_of l u words o name history before now w (inl h) = inl h
+unfinished_of l u words o name history before now w (inr h) = inr record { name = name; command = w; limits = l; usual = u; file = h }

@@ -49,12 +49,14 @@ pub record Progress : Type 0 where
 abbrev pub starting : Package → Progress
 starting p = record { staged = p; accepted = None; revision = 0 }
 
+-- how far it has come behind a command that is answered
 abbrev pub progress_after : Progress → Command → Progress
 progress_after s Publish = record { staged = s.staged; accepted = Some s.staged; revision = suc s.revision }
 progress_after s Settle = s
 progress_after s Report = s
 progress_after s Close = s
 
+-- and behind several
 abbrev pub progress_all : Progress → List Command → Progress
 progress_all s [] = s
 progress_all s (c ∷ cs) = progress_all (progress_after s c) cs
@@ -85,6 +87,7 @@ text_of l (Shut t) = closed_text t
 abbrev pub pairs_of : List Obligation → List (Key × ProblemDraft)
 pairs_of os = map {B = Key × ProblemDraft} (λ o. (o.key, o.problem)) os
 
+-- those of the obligations that a package has within these limits
 abbrev pub listed_of : Limits → Package → List (Key × ProblemDraft)
 listed_of l p = pairs_of (obligations_of p l.consistency)
 

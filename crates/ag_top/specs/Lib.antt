@@ -5,6 +5,7 @@ pub mod Keeping
 pub mod Stages
 pub mod Sessions
 pub mod Words
+pub mod Files
 pub mod Refusals
 pub mod Printing
 pub mod Outcome

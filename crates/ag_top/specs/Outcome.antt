@@ -1,5 +1,5 @@
 -- What a run of the program promises, from the words and the bytes that were read to the bytes that were written.
-use Rattle.std.specs.Prelude.{◌≡◌, ◌⊎◌, ◌<◌, ◌≤◌, ◌++◌, ◌∷◌, [], ℕ, List, length, take, All, Option, IfSome}
+use Rattle.std.specs.Prelude.{◌≡◌, ◌⊎◌, ◌<◌, ◌++◌, ◌∷◌, [], ℕ, List, length, take, All, Option, IfSome}
 use Rattle.std.specs.List.{flat_map}
 use Rattle.ag_base.specs.declared.place.Place.{Place}
 use Rattle.ag_base.specs.declared.status.Status.{Status}
@@ -15,7 +15,8 @@ use Rattle.ag_top.specs.declared.command.Command.{Command}
 use Rattle.ag_top.specs.Keeping.{listed}
 use Rattle.ag_top.specs.Stages.{Partly}
 use Rattle.ag_top.specs.Printing.{IsPrintBroken}
-use Rattle.ag_top.specs.Words.{IsCheck, IsCommand, IsTextOf, usage_text, too_long_text}
+use Rattle.ag_top.specs.Words.{IsCheck, IsCommand, usage_text}
+use Rattle.ag_top.specs.Files.{Outside, IsTextOf, TellsUnread, TellsUnreadPartly}
 use Rattle.ag_top.specs.Commands.{starting, progress_all, editing, IsUsual, check, Said, Accepted, AllSettled, Told, Shut, text_of, listed_of, Serves, IsBegun, IsToldOf, Grows, status_by}
 
 -- the replies, one after another
@@ -30,7 +31,7 @@ IsTruly l (Told p n lines) =
     All (IsToldOf (listed_of l p)) lines × All (λ line. IfSome line.1 (λ v. IsTrueOfNamed p l.consistency line.0 v)) lines
 IsTruly l (Shut t) = Unit {0}
 
--- The headline: the replies are those of one legal history that holds the commands once each; what they tell is true; after
+-- What a check promises: the replies are those of one legal history that holds the commands once each; what they tell is true; after
 -- the close each obligation has a verdict, and no other key has; the status is that of the verdicts
 pub record IsChecked (l : Limits) (p : Package) (history : List PlainEntry) (said : List Said) (status : Status) : Type 0 where
   pub legal : IsLegal history
@@ -86,45 +87,6 @@ pub record IsNothing (history : List PlainEntry) (before now : Option (List ℕ)
   pub empty : history ≡ []
   pub unwritten : now ≡ before
 
--- the words are no command: the usage is written
-pub record IsUsage (words : List (List ℕ)) (history : List PlainEntry) (before now : Option (List ℕ)) : Type 0 where
-  pub other : IsCommand words → ⊥
-  pub written : Grows before now usage_text
-  pub empty : history ≡ []
-
--- what was read is too long, or no package of the grammar, and that is written, with a place in the text
-pub record IsRefusal (words : List (List ℕ)) (left : Option (List ℕ)) (history : List PlainEntry) (before now : Option (List ℕ)) : Type 0 where
-  pub command : IsCheck words
-  pub text : List ℕ
-  pub read : IsTextOf left text
-  pub cause : ((4194304 < length text) × Grows before now too_long_text)
-      ⊎ ((length text ≤ 4194304) × ((p : Package) → Reads text p → ⊥) × ((place : Place) × IsPlaceIn text place × Grows before now (not_built place)))
-  pub empty : history ≡ []
-
--- what was read is a package, whose check was answered
-pub record IsAnswer (words : List (List ℕ)) (left : Option (List ℕ)) (history : List PlainEntry) (status : Status) (before now : Option (List ℕ)) : Type 0 where
-  pub command : IsCheck words
-  pub text : List ℕ
-  pub read : IsTextOf left text
-  pub few : length text ≤ 4194304
-  pub declared : Package
-  pub reads : Reads text declared
-  pub limits : Limits
-  pub usual : IsUsual limits
-  pub answer : IsCheckAnswer limits declared history status before now
-
--- what was read is a package, whose check was cut short
-pub record IsUnfinished (words : List (List ℕ)) (left : Option (List ℕ)) (history : List PlainEntry) (before now : Option (List ℕ)) : Type 0 where
-  pub command : IsCheck words
-  pub text : List ℕ
-  pub read : IsTextOf left text
-  pub few : length text ≤ 4194304
-  pub declared : Package
-  pub reads : Reads text declared
-  pub limits : Limits
-  pub usual : IsUsual limits
-  pub cut : IsCheckCut limits declared history before now
-
 -- a text is a package, whose check was answered
 pub record IsTextAnswer (l : Limits) (text : List ℕ) (history : List PlainEntry) (status : Status) (before now : Option (List ℕ)) : Type 0 where
   pub declared : Package
@@ -138,29 +100,81 @@ pub record IsTextCut (l : Limits) (text : List ℕ) (history : List PlainEntry) 
   pub cut : IsCheckCut l declared history before now
 
 -- a text is no package of the grammar, and that was written, with a place in the text
-pub record IsTextRefused (text : List ℕ) (history : List PlainEntry) (before now : Option (List ℕ)) : Type 0 where
+pub record IsTextRefused (name text : List ℕ) (history : List PlainEntry) (before now : Option (List ℕ)) : Type 0 where
   pub none : (p : Package) → Reads text p → ⊥
   pub place : Place
   pub inside : IsPlaceIn text place
-  pub written : Grows before now (not_built place)
+  pub written : Grows before now (not_built name place)
   pub empty : history ≡ []
 
 -- of what a text gives only the first bytes were written: of its check, or of its refusal
-abbrev pub IsTextBroken : Limits → List ℕ → List PlainEntry → Option (List ℕ) → Option (List ℕ) → Type 0
-IsTextBroken l text history before now =
+abbrev pub IsTextBroken : Limits → List ℕ → List ℕ → List PlainEntry → Option (List ℕ) → Option (List ℕ) → Type 0
+IsTextBroken l name text history before now =
     ((p : Package) × Reads text p × IsCheckBroken l p history before now)
-    ⊎ (((p : Package) → Reads text p → ⊥) × ((place : Place) × IsPlaceIn text place × Partly (not_built place) before now) × (history ≡ []))
+    ⊎ (((p : Package) → Reads text p → ⊥) × ((place : Place) × IsPlaceIn text place × Partly (not_built name place) before now) × (history ≡ []))
 
--- of what a check of the source gives only the first bytes were written
-pub record IsReadBroken (words : List (List ℕ)) (left : Option (List ℕ)) (history : List PlainEntry) (before now : Option (List ℕ)) : Type 0 where
-  pub command : IsCheck words
+-- the file of a name is a package, whose check was answered
+pub record IsFileAnswer (l : Limits) (o : Outside) (name : List ℕ) (history : List PlainEntry) (status : Status) (before now : Option (List ℕ)) : Type 0 where
   pub text : List ℕ
-  pub read : IsTextOf left text
-  pub cause : ((4194304 < length text) × Partly too_long_text before now × (history ≡ []))
-      ⊎ ((length text ≤ 4194304) × ((l : Limits) × IsUsual l × IsTextBroken l text history before now))
+  pub read : IsTextOf o name text
+  pub answer : IsTextAnswer l text history status before now
+
+-- it is a package, whose check was cut short
+pub record IsFileCut (l : Limits) (o : Outside) (name : List ℕ) (history : List PlainEntry) (before now : Option (List ℕ)) : Type 0 where
+  pub text : List ℕ
+  pub read : IsTextOf o name text
+  pub cut : IsTextCut l text history before now
+
+-- it isn't read, or is no package of the grammar, and that was written
+abbrev pub IsFileRefused : Outside → List ℕ → List PlainEntry → Option (List ℕ) → Option (List ℕ) → Type 0
+IsFileRefused o name history before now =
+    (TellsUnread o name before now × (history ≡ []))
+    ⊎ ((text : List ℕ) × IsTextOf o name text × IsTextRefused name text history before now)
+
+-- of what it gives only the first bytes were written
+abbrev pub IsFileBroken : Limits → Outside → List ℕ → List PlainEntry → Option (List ℕ) → Option (List ℕ) → Type 0
+IsFileBroken l o name history before now =
+    (TellsUnreadPartly o name before now × (history ≡ []))
+    ⊎ ((text : List ℕ) × IsTextOf o name text × IsTextBroken l name text history before now)
+
+-- the words are no command: the usage is written
+pub record IsUsage (words : List (List ℕ)) (history : List PlainEntry) (before now : Option (List ℕ)) : Type 0 where
+  pub other : IsCommand words → ⊥
+  pub written : Grows before now usage_text
+  pub empty : history ≡ []
+
+-- the file that the words name is a package, whose check was answered
+pub record IsAnswer (words : List (List ℕ)) (o : Outside) (history : List PlainEntry) (status : Status) (before now : Option (List ℕ)) : Type 0 where
+  pub name : List ℕ
+  pub command : IsCheck words name
+  pub limits : Limits
+  pub usual : IsUsual limits
+  pub file : IsFileAnswer limits o name history status before now
+
+-- its check was cut short
+pub record IsUnfinished (words : List (List ℕ)) (o : Outside) (history : List PlainEntry) (before now : Option (List ℕ)) : Type 0 where
+  pub name : List ℕ
+  pub command : IsCheck words name
+  pub limits : Limits
+  pub usual : IsUsual limits
+  pub file : IsFileCut limits o name history before now
+
+-- it isn't read, or is no package of the grammar, and that was written
+pub record IsRefusal (words : List (List ℕ)) (o : Outside) (history : List PlainEntry) (before now : Option (List ℕ)) : Type 0 where
+  pub name : List ℕ
+  pub command : IsCheck words name
+  pub file : IsFileRefused o name history before now
+
+-- of what its check gives only the first bytes were written
+pub record IsAnswerBroken (words : List (List ℕ)) (o : Outside) (history : List PlainEntry) (before now : Option (List ℕ)) : Type 0 where
+  pub name : List ℕ
+  pub command : IsCheck words name
+  pub limits : Limits
+  pub usual : IsUsual limits
+  pub file : IsFileBroken limits o name history before now
 
 -- of what the words ask for only the first bytes were written
-abbrev pub IsBroken : List (List ℕ) → Option (List ℕ) → List PlainEntry → Option (List ℕ) → Option (List ℕ) → Type 0
-IsBroken words left history before now =
+abbrev pub IsBroken : List (List ℕ) → Outside → List PlainEntry → Option (List ℕ) → Option (List ℕ) → Type 0
+IsBroken words o history before now =
     ((IsCommand words → ⊥) × Partly usage_text before now × (history ≡ []))
-    ⊎ (IsReadBroken words left history before now ⊎ IsPrintBroken words left history before now)
+    ⊎ (IsAnswerBroken words o history before now ⊎ IsPrintBroken words o history before now)

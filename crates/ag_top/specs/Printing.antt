@@ -1,6 +1,6 @@
--- What a print of the source promises: the canonical text of the packages that were read and of what their annexes state, or the
+-- What a print of a file promises: the canonical text of the packages that were read and of what their annexes state, or the
 -- refusal that the text gets.
-use Rattle.std.specs.Prelude.{◌≡◌, ◌⊎◌, ◌<◌, ◌≤◌, [], ℕ, List, length, Option}
+use Rattle.std.specs.Prelude.{◌≡◌, ◌⊎◌, [], ℕ, List, Option}
 use Rattle.ag_base.specs.declared.place.Refusal.{Refusal}
 use Rattle.ag_base.specs.declared.status.Status.{Status}
 use Rattle.ag_base.specs.declared.status.Status.TheVariants as statuses
@@ -16,7 +16,8 @@ use Rattle.ag_top.specs.Commands.{Grows}
 use Rattle.ag_board.specs.Entries.{PlainEntry}
 use Rattle.ag_top.specs.Refusals.{refusal_text}
 use Rattle.ag_top.specs.Stages.{Partly}
-use Rattle.ag_top.specs.Words.{IsPrint, IsTextOf, too_long_text}
+use Rattle.ag_top.specs.Words.{IsPrint}
+use Rattle.ag_top.specs.Files.{Outside, IsTextOf, TellsUnread, TellsUnreadPartly}
 
 -- the text, the one file that is read, breaks no rule of tokens or of the grammar, and these are its packages
 pub record Declares (text : List ℕ) (packages : List Package) : Type 0 where
@@ -55,45 +56,52 @@ pub record IsTextPrinted (text : List ℕ) (history : List PlainEntry) (before n
   pub written : Grows before now printed
   pub empty : history ≡ []
 
--- a text's print was refused, and that was written
-pub record IsTextUnprinted (text : List ℕ) (history : List PlainEntry) (before now : Option (List ℕ)) : Type 0 where
+-- the print of a text, the file of that name, was refused, and that was written
+pub record IsTextUnprinted (name text : List ℕ) (history : List PlainEntry) (before now : Option (List ℕ)) : Type 0 where
   pub refusal : Refusal
   pub refused : IsPrintRefused text refusal
-  pub written : Grows before now (refusal_text refusal)
+  pub written : Grows before now (refusal_text name refusal)
   pub empty : history ≡ []
 
 -- of what a text's print gives only the first bytes were written: of its canonical text, or of its refusal
-abbrev pub IsTextPartlyPrinted : List ℕ → Option (List ℕ) → Option (List ℕ) → Type 0
-IsTextPartlyPrinted text before now =
+abbrev pub IsTextPartlyPrinted : List ℕ → List ℕ → Option (List ℕ) → Option (List ℕ) → Type 0
+IsTextPartlyPrinted name text before now =
     ((printed : List ℕ) × IsPrinted text printed × Partly printed before now)
-    ⊎ ((r : Refusal) × IsPrintRefused text r × Partly (refusal_text r) before now)
+    ⊎ ((r : Refusal) × IsPrintRefused text r × Partly (refusal_text name r) before now)
 
--- what was read was printed
-pub record IsPrintAnswer (words : List (List ℕ)) (left : Option (List ℕ)) (history : List PlainEntry) (status : Status) (before now : Option (List ℕ)) : Type 0 where
-  pub command : IsPrint words
+-- the file of a name was printed
+pub record IsFilePrinted (o : Outside) (name : List ℕ) (history : List PlainEntry) (before now : Option (List ℕ)) : Type 0 where
+  pub text : List ℕ
+  pub read : IsTextOf o name text
+  pub print : IsTextPrinted text history before now
+
+-- it isn't read, or its print is refused, and that was written
+abbrev pub IsFileUnprinted : Outside → List ℕ → List PlainEntry → Option (List ℕ) → Option (List ℕ) → Type 0
+IsFileUnprinted o name history before now =
+    (TellsUnread o name before now × (history ≡ []))
+    ⊎ ((text : List ℕ) × IsTextOf o name text × IsTextUnprinted name text history before now)
+
+-- of what its print gives only the first bytes were written
+abbrev pub IsFilePartlyPrinted : Outside → List ℕ → Option (List ℕ) → Option (List ℕ) → Type 0
+IsFilePartlyPrinted o name before now =
+    TellsUnreadPartly o name before now ⊎ ((text : List ℕ) × IsTextOf o name text × IsTextPartlyPrinted name text before now)
+
+-- the file that the words name was printed
+pub record IsPrintAnswer (words : List (List ℕ)) (o : Outside) (history : List PlainEntry) (status : Status) (before now : Option (List ℕ)) : Type 0 where
+  pub name : List ℕ
+  pub command : IsPrint words name
   pub good : status ≡ statuses.AllGood
-  pub text : List ℕ
-  pub read : IsTextOf left text
-  pub few : length text ≤ 4194304
-  pub printed : List ℕ
-  pub canonical : IsPrinted text printed
-  pub written : Grows before now printed
-  pub empty : history ≡ []
+  pub file : IsFilePrinted o name history before now
 
--- what was read is too long to be printed, or its print is refused, and that is written
-pub record IsPrintRefusal (words : List (List ℕ)) (left : Option (List ℕ)) (history : List PlainEntry) (before now : Option (List ℕ)) : Type 0 where
-  pub command : IsPrint words
-  pub text : List ℕ
-  pub read : IsTextOf left text
-  pub cause : ((4194304 < length text) × Grows before now too_long_text)
-      ⊎ ((length text ≤ 4194304) × ((r : Refusal) × IsPrintRefused text r × Grows before now (refusal_text r)))
-  pub empty : history ≡ []
+-- it isn't read, or its print is refused, and that was written
+pub record IsPrintRefusal (words : List (List ℕ)) (o : Outside) (history : List PlainEntry) (before now : Option (List ℕ)) : Type 0 where
+  pub name : List ℕ
+  pub command : IsPrint words name
+  pub file : IsFileUnprinted o name history before now
 
--- of what a print of the source gives only the first bytes were written
-pub record IsPrintBroken (words : List (List ℕ)) (left : Option (List ℕ)) (history : List PlainEntry) (before now : Option (List ℕ)) : Type 0 where
-  pub command : IsPrint words
-  pub text : List ℕ
-  pub read : IsTextOf left text
-  pub cause : ((4194304 < length text) × Partly too_long_text before now)
-      ⊎ ((length text ≤ 4194304) × IsTextPartlyPrinted text before now)
+-- of what its print gives only the first bytes were written
+pub record IsPrintBroken (words : List (List ℕ)) (o : Outside) (history : List PlainEntry) (before now : Option (List ℕ)) : Type 0 where
+  pub name : List ℕ
+  pub command : IsPrint words name
+  pub file : IsFilePartlyPrinted o name before now
   pub empty : history ≡ []

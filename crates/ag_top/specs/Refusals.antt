@@ -1,4 +1,4 @@
--- What is printed of a refusal of the source.
+-- What is printed of a refusal of a file.
 use Rattle.std.specs.Prelude.{ℕ, ◌++◌, List, [], codes, decimal}
 use Rattle.ag_base.specs.declared.place.Place.{Place}
 use Rattle.ag_base.specs.declared.place.Refusal.{Refusal}
@@ -46,12 +46,12 @@ abbrev pub word_behind : Rule → List ℕ
 word_behind (Unsupported word) = codes " " ++ word_text word
 word_behind _ = []
 
--- the place and the rule, on a line
-abbrev pub refusal_text : Refusal → List ℕ
-refusal_text r =
-    codes "refused -:" ++ decimal r.place.line ++ codes ":" ++ decimal r.place.column ++ codes " " ++ rule_name r.rule
+-- the file's name, the place and the rule, on a line
+abbrev pub refusal_text : List ℕ → Refusal → List ℕ
+refusal_text name r =
+    codes "refused " ++ name ++ codes ":" ++ decimal r.place.line ++ codes ":" ++ decimal r.place.column ++ codes " " ++ rule_name r.rule
     ++ word_behind r.rule ++ codes "\n"
 
 -- the refusal of a text that is no package of the check's grammar, at that place
-abbrev pub not_built : Place → List ℕ
-not_built place = refusal_text record { place = place; rule = NotBuilt }
+abbrev pub not_built : List ℕ → Place → List ℕ
+not_built name place = refusal_text name record { place = place; rule = NotBuilt }

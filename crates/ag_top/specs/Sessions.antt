@@ -20,6 +20,7 @@ abbrev pub accepted_at : ℕ → Package → Option Package
 accepted_at zero p = None
 accepted_at (suc n) p = Some p
 
+-- how far a session has come
 abbrev pub progress_of : Session → Progress
 progress_of s = record {
   staged = s.model;

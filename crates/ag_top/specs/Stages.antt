@@ -26,6 +26,7 @@ AreDecisions g [] = Unit {0}
 AreDecisions g (a ∷ []) = ⊥
 AreDecisions g (a ∷ b ∷ es) = IsDecision g a b × AreDecisions g es
 
+-- so from one history to another
 pub record Decides (g : Setting) (old new : List PlainEntry) : Type 0 where
   pub entries : List PlainEntry
   pub decisions : AreDecisions g entries
@@ -169,6 +170,20 @@ IsEndOfText statuses.ReadFault = ⊥
 IsEndOfText statuses.SessionRefused = ⊥
 IsEndOfText _ = Unit {0}
 
+-- an end of a text, or a read fault
+abbrev pub IsEndOfFile : Status → Type 0
+IsEndOfFile statuses.Usage = ⊥
+IsEndOfFile statuses.SessionRefused = ⊥
+IsEndOfFile _ = Unit {0}
+
+-- the end of a file that isn't read: that was written, or the source, the folder, the sink or memory cut it short
+abbrev pub IsEndUnread : Status → Type 0
+IsEndUnread statuses.ModelRefused = Unit {0}
+IsEndUnread statuses.ReadFault = Unit {0}
+IsEndUnread statuses.WriteFault = Unit {0}
+IsEndUnread statuses.OutOfMemory = Unit {0}
+IsEndUnread _ = ⊥
+
 -- the end of a print: its text or its refusal was written, or the sink or memory cut it short
 abbrev pub IsEndOfPrint : Status → Type 0
 IsEndOfPrint statuses.AllGood = Unit {0}
@@ -176,3 +191,8 @@ IsEndOfPrint statuses.ModelRefused = Unit {0}
 IsEndOfPrint statuses.WriteFault = Unit {0}
 IsEndOfPrint statuses.OutOfMemory = Unit {0}
 IsEndOfPrint _ = ⊥
+
+-- the end of a print of a file: as that of a text, or a read fault
+abbrev pub IsEndOfPrintedFile : Status → Type 0
+IsEndOfPrintedFile statuses.ReadFault = Unit {0}
+IsEndOfPrintedFile s = IsEndOfPrint s

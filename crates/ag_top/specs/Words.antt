@@ -1,37 +1,53 @@
--- The words that are a command, what is read for it, and what is written where there is none.
-use Rattle.std.specs.Prelude.{◌≡◌, ◌⊎◌, ◌<◌, ◌∷◌, [], ℕ, List, length, Option, IfSome, codes}
+-- What the words ask for, which file they name, and what is written where they are no command.
+use Rattle.std.specs.Prelude.{◌≡◌, ◌≢◌, ◌⊎◌, ◌∷◌, [], ℕ, List, codes}
 use Rattle.ag_top.specs.declared.words.Order.{Order}
 use Rattle.ag_top.specs.declared.words.Order.TheVariants as orders
 
--- the words of a check of the source
-abbrev pub IsCheck : List (List ℕ) → Type 0
-IsCheck words = words ≡ codes "check" ∷ codes "-" ∷ []
+-- the word of a command
+abbrev pub word_of : Order → List ℕ
+word_of orders.Check = codes "check"
+word_of orders.Print = codes "print"
 
--- the words of a print of the source
-abbrev pub IsPrint : List (List ℕ) → Type 0
-IsPrint words = words ≡ codes "print" ∷ codes "-" ∷ []
+-- the name of the source
+abbrev pub source_name : List ℕ
+source_name = codes "-"
+
+-- a word that names a file by itself: it isn't empty, and it is `-` or doesn't begin with that
+abbrev pub IsPlainWord : List ℕ → Type 0
+IsPlainWord [] = ⊥
+IsPlainWord (b ∷ bs) = b ≡ 45 → bs ≡ []
+
+-- the words name this one file: behind `--` every word does that isn't empty
+abbrev pub NamesFile : List (List ℕ) → List ℕ → Type 0
+NamesFile words name =
+    (IsPlainWord name × ((words ≡ name ∷ []) ⊎ (words ≡ name ∷ codes "--" ∷ [])))
+    ⊎ ((name ≢ []) × (words ≡ codes "--" ∷ name ∷ []))
+
+-- the words ask for this, of the file of this name
+pub record AsksFor (words : List (List ℕ)) (o : Order) (name : List ℕ) : Type 0 where
+  pub rest : List (List ℕ)
+  pub command : words ≡ word_of o ∷ rest
+  pub file : NamesFile rest name
+
+-- the words of a check of that file
+abbrev pub IsCheck : List (List ℕ) → List ℕ → Type 0
+IsCheck words name = AsksFor words orders.Check name
+
+-- the words of a print of it
+abbrev pub IsPrint : List (List ℕ) → List ℕ → Type 0
+IsPrint words name = AsksFor words orders.Print name
 
 -- the words of some command
 abbrev pub IsCommand : List (List ℕ) → Type 0
-IsCommand words = IsCheck words ⊎ IsPrint words
+IsCommand words = (o : Order) × (name : List ℕ) × AsksFor words o name
 
--- the words ask for this
-abbrev pub AsksFor : List (List ℕ) → Order → Type 0
-AsksFor words orders.Check = IsCheck words
-AsksFor words orders.Print = IsPrint words
+-- they ask for the source
+abbrev pub AsksSource : List (List ℕ) → Type 0
+AsksSource words = (o : Order) × AsksFor words o source_name
+
+-- they ask for a file of the folder
+abbrev pub AsksFolder : List (List ℕ) → Type 0
+AsksFolder words = (o : Order) × (name : List ℕ) × (name ≢ source_name) × AsksFor words o name
 
 abbrev pub usage_text : List ℕ
-usage_text = codes "usage: agreec check -\n"
-
-abbrev pub too_long_text : List ℕ
-too_long_text = codes "refused - TooLong\n"
-
--- the text that was read is all that the source has, where it tells
-abbrev pub IsTextOf : Option (List ℕ) → List ℕ → Type 0
-IsTextOf left text = IfSome left (λ bytes. text ≡ bytes)
-
--- a text of the source has more than 4,194,304 bytes
-pub record IsTooLong (left : Option (List ℕ)) : Type 0 where
-  pub text : List ℕ
-  pub read : IsTextOf left text
-  pub long : 4194304 < length text
+usage_text = codes "usage: agreec check [--top NAME] [LIMITS] FILE [FILE ...]\n       agreec print FILE\n       agreec serve [--workers N] [LIMITS]\n       agreec gen N [--workers N] [LIMITS]\nlimits: --depth N --work N --leaf N --consistency N\n"

@@ -54,9 +54,13 @@ pub fn ended(alloc: Global, status: Status) -> Done
 /// Checks a package: its revision is published, settled, reported and closed.
 pub fn check<K: Sink>(alloc: Global, limits: Limits, model: Package, sink: &mut K) -> Done
     requires { IsWellFormed model }
-    ensures checked { EndsByVerdicts result.status → IsCheckAnswer limits model result.history.entries result.status (K.written sink.old) (K.written sink.new) }
-    ensures memory { result.status ≡ statuses.OutOfMemory → IsNothing result.history.entries (K.written sink.old) (K.written sink.new) ⊎ IsCheckCut limits model result.history.entries (K.written sink.old) (K.written sink.new) }
-    ensures broken { result.status ≡ statuses.WriteFault → IsCheckBroken limits model result.history.entries (K.written sink.old) (K.written sink.new) }
+    ensures checked { EndsByVerdicts result.status
+        → IsCheckAnswer limits model result.history.entries result.status (K.written sink.old) (K.written sink.new) }
+    ensures memory { result.status ≡ statuses.OutOfMemory
+        → IsNothing result.history.entries (K.written sink.old) (K.written sink.new)
+        ⊎ IsCheckCut limits model result.history.entries (K.written sink.old) (K.written sink.new) }
+    ensures broken { result.status ≡ statuses.WriteFault
+        → IsCheckBroken limits model result.history.entries (K.written sink.old) (K.written sink.new) }
     ensures write { result.status ≡ statuses.WriteFault → Rose (K.faults sink.old) (K.faults sink.new) }
     ensures unfaulted { result.status ≢ statuses.WriteFault → K.faults sink.new ≡ K.faults sink.old }
     ensures only { IsEndOfCheck result.status }

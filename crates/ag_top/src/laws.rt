@@ -18,7 +18,8 @@ pub fn one_print()
 
 /// Each text has a canonical text or gets a refusal. With `one_print` it is exactly one of the two.
 pub fn one_of_the_two()
-    ensures { (text : List ℕ) → ((printed : List ℕ) × IsPrinted text printed) ⊎ ((r : Refusal) × IsPrintRefused text r) }
+    ensures { (text : List ℕ) → ((printed : List ℕ) × IsPrinted text printed)
+        ⊎ ((r : Refusal) × IsPrintRefused text r) }
 {
     ag_lex::one_of_the_two();
     ag_aadl::one_of_the_two();

@@ -30,13 +30,17 @@ fn printed(alloc: Global, text: &[u8]) -> Result<Bytes, Refused>
 }
 
 /// Prints the packages that a text declares and what their annexes state, or tells why there is
-/// nothing to print.
-pub fn print_text<K: Sink>(alloc: Global, text: &[u8], sink: &mut K) -> Done
+/// nothing to print. The name is that of the file.
+pub fn print_text<K: Sink>(alloc: Global, name: &str, text: &[u8], sink: &mut K) -> Done
     requires { length text.now ≤ 4194304 }
-    ensures printed { result.status ≡ statuses.AllGood → IsTextPrinted text.now result.history.entries (K.written sink.old) (K.written sink.new) }
-    ensures refused { result.status ≡ statuses.ModelRefused → IsTextUnprinted text.now result.history.entries (K.written sink.old) (K.written sink.new) }
-    ensures memory { result.status ≡ statuses.OutOfMemory → IsNothing result.history.entries (K.written sink.old) (K.written sink.new) }
-    ensures broken { result.status ≡ statuses.WriteFault → IsTextPartlyPrinted text.now (K.written sink.old) (K.written sink.new) }
+    ensures printed { result.status ≡ statuses.AllGood
+        → IsTextPrinted text.now result.history.entries (K.written sink.old) (K.written sink.new) }
+    ensures refused { result.status ≡ statuses.ModelRefused
+        → IsTextUnprinted name.now text.now result.history.entries (K.written sink.old) (K.written sink.new) }
+    ensures memory { result.status ≡ statuses.OutOfMemory
+        → IsNothing result.history.entries (K.written sink.old) (K.written sink.new) }
+    ensures broken { result.status ≡ statuses.WriteFault
+        → IsTextPartlyPrinted name.now text.now (K.written sink.old) (K.written sink.new) }
     ensures write { result.status ≡ statuses.WriteFault → Rose (K.faults sink.old) (K.faults sink.new) }
     ensures unfaulted { result.status ≢ statuses.WriteFault → K.faults sink.new ≡ K.faults sink.old }
     ensures never_falls { K.faults sink.old ≤ K.faults sink.new }
@@ -46,7 +50,7 @@ pub fn print_text<K: Sink>(alloc: Global, text: &[u8], sink: &mut K) -> Done
     match printed(alloc, text) {
         Ok(canonical) => tell(alloc, sink, canonical.as_slice(), Status::AllGood),
         Err(Refused::OutOfMemory) => ended(alloc, Status::OutOfMemory),
-        Err(Refused::Model(refusal)) => match refusal_line(alloc, refusal) {
+        Err(Refused::Model(refusal)) => match refusal_line(alloc, name, refusal) {
             Ok(line) => tell(alloc, sink, line.as_slice(), Status::ModelRefused),
             Err(_) => ended(alloc, Status::OutOfMemory),
         },

@@ -32,7 +32,8 @@ fn has_equation(problem: &Problem, stream: u16) -> bool
 
 /// The Boolean streams without an equation.
 fn free_streams(alloc: Global, problem: &Problem) -> Result<Vec<u16>, OutOfMemory>
-    ensures all { IfOk result (λ free. (s : ℕ) → s < problem.now.flags → (Contains (targets problem.now) (problem.now.ints + s) → ⊥) → Contains free.items s) }
+    ensures all { IfOk result (λ free. (s : ℕ) → s < problem.now.flags
+        → (Contains (targets problem.now) (problem.now.ints + s) → ⊥) → Contains free.items s) }
     ensures below { IfOk result (λ free. All (λ s. s < problem.now.flags) free.items) }
 {
     let mut free = Vec::new(alloc);
@@ -72,8 +73,10 @@ fn instant_of(alloc: Global, flags: &[bool]) -> Result<Run, OutOfMemory>
 fn try_one(alloc: Global, problem: &Problem, flags: &[bool]) -> Result<Option<Run>, OutOfMemory>
     requires plain { IsPlain problem.now }
     requires fits { length flags.now ≡ problem.now.flags }
-    ensures found { IfOk result (λ found. IfSome found (λ run. (i : InstantValue) × (run ≡ single i) × IsSought problem.now run)) }
-    ensures none { IfOk result (λ found. IfNone found ((i : InstantValue) → IsSought problem.now (single i) → AgreesOutside problem.now [] flags.now i → ⊥)) }
+    ensures found { IfOk result (λ found. IfSome found (λ run.
+        (i : InstantValue) × (run ≡ single i) × IsSought problem.now run)) }
+    ensures none { IfOk result (λ found. IfNone found ((i : InstantValue)
+        → IsSought problem.now (single i) → AgreesOutside problem.now [] flags.now i → ⊥)) }
 {
     let given = instant_of(alloc, flags)?;
     match eval(alloc, problem, &given) {
@@ -99,9 +102,12 @@ fn try_free(
     requires plain { IsPlain problem.now }
     requires fits { length flags.old ≡ problem.now.flags }
     requires below { All (λ s. s < problem.now.flags) free.now }
-    ensures kept { (s : ℕ) → (Contains free.now s → ⊥) → slice_index_or flags.new s false ≡ slice_index_or flags.old s false }
-    ensures found { IfOk result (λ found. IfSome found (λ run. (i : InstantValue) × (run ≡ single i) × IsSought problem.now run)) }
-    ensures none { IfOk result (λ found. IfNone found ((i : InstantValue) → IsSought problem.now (single i) → AgreesOutside problem.now free.now flags.old i → ⊥)) }
+    ensures kept { (s : ℕ) → (Contains free.now s → ⊥)
+        → slice_index_or flags.new s false ≡ slice_index_or flags.old s false }
+    ensures found { IfOk result (λ found. IfSome found (λ run.
+        (i : InstantValue) × (run ≡ single i) × IsSought problem.now run)) }
+    ensures none { IfOk result (λ found. IfNone found ((i : InstantValue)
+        → IsSought problem.now (single i) → AgreesOutside problem.now free.now flags.old i → ⊥)) }
 {
     let Some((stream, others)) = free.split_first() else {
         return try_one(alloc, problem, flags);
@@ -134,8 +140,10 @@ fn stay(alloc: Global, run: &Run, length: u32) -> Result<Run, OutOfMemory>
 /// An instant that is sought, or none where there is none.
 fn find_sought(alloc: Global, problem: &Problem) -> Result<Option<Run>, OutOfMemory>
     requires plain { IsPlain problem.now }
-    ensures found { IfOk result (λ found. IfSome found (λ run. (i : InstantValue) × (run ≡ single i) × IsSought problem.now run)) }
-    ensures none { IfOk result (λ found. IfNone found ((i : InstantValue) → IsSought problem.now (single i) → ⊥)) }
+    ensures found { IfOk result (λ found. IfSome found (λ run.
+        (i : InstantValue) × (run ≡ single i) × IsSought problem.now run)) }
+    ensures none { IfOk result (λ found. IfNone found
+        ((i : InstantValue) → IsSought problem.now (single i) → ⊥)) }
 {
     let free = free_streams(alloc, problem)?;
     let mut flags = vec![in alloc; false; problem.draft().flags as usize]?;
@@ -171,7 +179,9 @@ fn claim_verdict(found: Option<Run>) -> Verdict
 /// The verdict of premises, by an instant that keeps them.
 fn premises_verdict(alloc: Global, length: u32, found: Option<Run>) -> Result<Verdict, OutOfMemory>
     requires { IfSome found (λ run. (i : InstantValue) × (run ≡ single i) × (i.whole ≡ [])) }
-    ensures { IfOk result (λ v. MatchOption found (v ≡ Inconsistent) (λ run. (i : InstantValue) → run ≡ single i → v ≡ Consistent (staying length i))) }
+    ensures { IfOk result (λ v. MatchOption found
+        (v ≡ Inconsistent)
+        (λ run. (i : InstantValue) → run ≡ single i → v ≡ Consistent (staying length i))) }
 {
     match found {
         None => Ok(Verdict::Inconsistent),

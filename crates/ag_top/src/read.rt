@@ -1,37 +1,36 @@
-//! Reading the text that a command asks for.
-ghost use Rattle.std.specs.Prelude.{◌≡◌, ◌≤◌, length, IfOk, IsErrOf};
+//! Reading the file that a command asks for.
+ghost use Rattle.std.specs.Prelude.{◌≡◌, ◌≢◌, ◌≤◌, ◌⊎◌, length, IfOk, IsErrOf};
 ghost use Rattle.ag_base.specs.Outside.{Rose};
-ghost use Rattle.ag_top.specs.Words.{IsTextOf, IsTooLong};
-ghost use Rattle.ag_top.specs.declared.read.TextFault.TheVariants as faults;
+ghost use Rattle.ag_base.specs.declared.outside.FolderFault.TheVariants as faults;
+ghost use Rattle.ag_top.specs.Words.{source_name};
+ghost use Rattle.ag_top.specs.Files.{outside, IsAnswerOf};
 
-use ag_base::{Bytes, FolderFault, Source};
+use ag_base::{Bytes, Folder, FolderFault, Source};
 use ag_io::read_all;
 use std::alloc::Global;
 
-/// Why a text isn't read.
-#[derive(Clone, Copy)]
-pub enum TextFault {
-    /// It has more than 4,194,304 bytes.
-    TooLong,
-    Failed,
-    OutOfMemory,
-}
-
-/// All bytes of a source, up to its end.
-#[tactic(auto, using(crate::proofs::Reading::read_is, crate::proofs::Reading::long_is))]
-pub fn read_text<S: Source>(alloc: Global, source: &mut S) -> Result<Bytes, TextFault>
-    ensures ok { IfOk result (IsTextOf (S.left source.old)) }
+/// All bytes of the file of that name: of the source for `-`, and else of the folder.
+pub fn read_text<S: Source, F: Folder>(
+    alloc: Global,
+    name: &str,
+    source: &mut S,
+    folder: &mut F,
+) -> Result<Bytes, FolderFault>
+    ensures answer { IsAnswerOf (outside (S.left source.old) (F.files folder.old)) name.now result }
     ensures few { IfOk result (λ text. length text ≤ 4194304) }
-    ensures too_long { IsErrOf result faults.TooLong → IsTooLong (S.left source.old) }
-    ensures failed { IsErrOf result faults.Failed → Rose (S.faults source.old) (S.faults source.new) }
-    ensures unfaulted { (IsErrOf result faults.Failed → ⊥) → S.faults source.new ≡ S.faults source.old }
-    ensures never_falls { S.faults source.old ≤ S.faults source.new }
+    ensures failed { IsErrOf result faults.Failed → Rose (S.faults source.old) (S.faults source.new)
+        ⊎ Rose (F.faults folder.old) (F.faults folder.new) }
+    ensures source_unfaulted { IsErrOf result faults.Failed ⊎ (S.faults source.new ≡ S.faults source.old) }
+    ensures folder_unfaulted { IsErrOf result faults.Failed ⊎ (F.faults folder.new ≡ F.faults folder.old) }
+    ensures source_never_falls { S.faults source.old ≤ S.faults source.new }
+    ensures folder_never_falls { F.faults folder.old ≤ F.faults folder.new }
+    ensures source_unread { name.now ≢ source_name → source.new ≡ source.old }
+    ensures folder_unread { name.now ≡ source_name → folder.new ≡ folder.old }
+    ensures files { F.files folder.new ≡ F.files folder.old }
 {
-    match read_all(alloc, source) {
-        Ok(text) => Ok(text),
-        Err(FolderFault::TooLong) => Err(TextFault::TooLong),
-        Err(FolderFault::Failed) => Err(TextFault::Failed),
-        Err(FolderFault::OutOfMemory) => Err(TextFault::OutOfMemory),
-        Err(FolderFault::NotThere) => unreachable!(),
+    if name == "-" {
+        read_all(alloc, source)
+    } else {
+        folder.read(name)
     }
 }

@@ -1,6 +1,7 @@
-//! A refusal of the source, on a line.
+//! A refusal of a file, on a line.
 ghost use Rattle.std.specs.Prelude.{◌≡◌, ◌++◌, IfOk, OnOk};
 ghost use Rattle.std.specs.String.{string_bytes};
+ghost use Rattle.ag_top.specs.Files.{unread_text};
 ghost use Rattle.ag_top.specs.Refusals.{rule_name, word_behind, refusal_text};
 
 use ag_annex::word_text;
@@ -58,14 +59,22 @@ fn push_word(text: &mut String, rule: Rule) -> Result<(), OutOfMemory>
     Ok(())
 }
 
-/// The line that tells of a refusal: the place, the rule's name, and the word that isn't supported.
-pub fn refusal_line(alloc: Global, refusal: Refusal) -> Result<Bytes, OutOfMemory>
-    ensures { IfOk result (λ line. line ≡ refusal_text refusal) }
+/// The line that tells of a refusal: the file's name, the place, the rule's name, and the word that isn't supported.
+pub fn refusal_line(alloc: Global, file: &str, refusal: Refusal) -> Result<Bytes, OutOfMemory>
+    ensures { IfOk result (λ line. line ≡ refusal_text file.now refusal) }
 {
     let Place { line, column, .. } = refusal.place;
     let name = rule_name(refusal.rule);
-    let mut text = format!(in alloc; "refused -:{line}:{column} {name}")?;
+    let mut text = format!(in alloc; "refused {file}:{line}:{column} {name}")?;
     push_word(&mut text, refusal.rule)?;
     text.push_str("\n")?;
+    Ok(List::from_vec(text.into_bytes()))
+}
+
+/// The line that tells why a file isn't read.
+pub fn unread_line(alloc: Global, file: &str, cause: &str) -> Result<Bytes, OutOfMemory>
+    ensures { IfOk result (λ line. line ≡ unread_text file.now cause.now) }
+{
+    let text = format!(in alloc; "refused {file} {cause}\n")?;
     Ok(List::from_vec(text.into_bytes()))
 }

@@ -59,7 +59,8 @@ fn reply<K: Sink>(sink: &mut K, text: &[u8]) -> Result<(), Cut>
 /// The package's obligations become the first revision, which no limit of the store refuses.
 fn publish<K: Sink>(alloc: Global, session: &mut Session, sink: &mut K) -> Result<(), Cut>
     requires first { session.old.board ≡ empty }
-    ensures served { Served (setting_of session.old) (progress_of session.old) Publish result (output session.old (K.written sink.old)) (output session.new (K.written sink.new)) }
+    ensures served { Served (setting_of session.old) (progress_of session.old) Publish result
+        (output session.old (K.written sink.old)) (output session.new (K.written sink.new)) }
     ensures counts { CountsFault result (K.faults sink.old) (K.faults sink.new) }
     ensures open { OnOk result (IsOpen session.new) }
     ensures went { OnOk result (progress_of session.new ≡ progress_after (progress_of session.old) Publish) }
@@ -95,7 +96,8 @@ fn publish<K: Sink>(alloc: Global, session: &mut Session, sink: &mut K) -> Resul
 fn settle_all<K: Sink>(alloc: Global, session: &mut Session, sink: &mut K) -> Result<(), Cut>
     requires due { IsOpen session.old }
     requires room { weight session.old.board ≤ 3999999990 }
-    ensures served { Served (setting_of session.old) (progress_of session.old) Settle result (output session.old (K.written sink.old)) (output session.new (K.written sink.new)) }
+    ensures served { Served (setting_of session.old) (progress_of session.old) Settle result
+        (output session.old (K.written sink.old)) (output session.new (K.written sink.new)) }
     ensures counts { CountsFault result (K.faults sink.old) (K.faults sink.new) }
     ensures open { OnOk result (IsOpen session.new) }
     ensures went { OnOk result (progress_of session.new ≡ progress_of session.old) }
@@ -116,7 +118,8 @@ fn settle_all<K: Sink>(alloc: Global, session: &mut Session, sink: &mut K) -> Re
 fn tell_report<K: Sink>(alloc: Global, session: &mut Session, sink: &mut K) -> Result<(), Cut>
     requires due { IsOpen session.old }
     requires room { weight session.old.board ≤ 3999999990 }
-    ensures served { Served (setting_of session.old) (progress_of session.old) Report result (output session.old (K.written sink.old)) (output session.new (K.written sink.new)) }
+    ensures served { Served (setting_of session.old) (progress_of session.old) Report result
+        (output session.old (K.written sink.old)) (output session.new (K.written sink.new)) }
     ensures counts { CountsFault result (K.faults sink.old) (K.faults sink.new) }
     ensures open { OnOk result (IsOpen session.new) }
     ensures went { OnOk result (progress_of session.new ≡ progress_of session.old) }
@@ -142,7 +145,8 @@ fn tell_report<K: Sink>(alloc: Global, session: &mut Session, sink: &mut K) -> R
 fn close<K: Sink>(alloc: Global, session: &mut Session, sink: &mut K) -> Result<Tally, Cut>
     requires due { IsOpen session.old }
     requires room { weight session.old.board ≤ 3999999990 }
-    ensures served { Served (setting_of session.old) (progress_of session.old) Close result (output session.old (K.written sink.old)) (output session.new (K.written sink.new)) }
+    ensures served { Served (setting_of session.old) (progress_of session.old) Close result
+        (output session.old (K.written sink.old)) (output session.new (K.written sink.new)) }
     ensures counts { CountsFault result (K.faults sink.old) (K.faults sink.new) }
     ensures shut { IfOk result (IsShut session.new) }
     ensures grown { weight session.new.board ≤ weight session.old.board + 3 }
@@ -191,10 +195,12 @@ fn serve<K: Sink>(
 ) -> Result<Option<Tally>, Cut>
     requires due { IsDue command session.old }
     requires room { weight session.old.board ≤ 3999999990 }
-    ensures served { Served (setting_of session.old) (progress_of session.old) command result (output session.old (K.written sink.old)) (output session.new (K.written sink.new)) }
+    ensures served { Served (setting_of session.old) (progress_of session.old) command result
+        (output session.old (K.written sink.old)) (output session.new (K.written sink.new)) }
     ensures counts { CountsFault result (K.faults sink.old) (K.faults sink.new) }
     ensures after { IfOk result (IsAfter command session.new) }
-    ensures went { IfOk result (λ t. t ≡ None → progress_of session.new ≡ progress_after (progress_of session.old) command) }
+    ensures went { IfOk result (λ t.
+        t ≡ None → progress_of session.new ≡ progress_after (progress_of session.old) command) }
     ensures grown { weight session.new.board ≤ weight session.old.board + 2049 }
     ensures same { IsSameModel session.old session.new }
 {
@@ -214,7 +220,8 @@ pub fn serve_check<K: Sink>(
     sink: &mut K,
 ) -> Result<Tally, Cut>
     requires first { session.old.board ≡ empty }
-    ensures served { ServedAll (setting_of session.old) (starting session.old.model) check result (output session.old (K.written sink.old)) (output session.new (K.written sink.new)) }
+    ensures served { ServedAll (setting_of session.old) (starting session.old.model) check result
+        (output session.old (K.written sink.old)) (output session.new (K.written sink.new)) }
     ensures counts { CountsFault result (K.faults sink.old) (K.faults sink.new) }
     ensures shut { IfOk result (IsShut session.new) }
     ensures same { IsSameModel session.old session.new }

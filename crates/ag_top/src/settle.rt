@@ -79,10 +79,16 @@ fn decide_next(alloc: Global, limits: &Limits, board: &mut Board) -> Result<bool
     requires idle { IsIdle board.old }
     requires plain { All (λ k. IsPlain k.1) (listed board.old.state) }
     requires room { weight board.old ≤ 3999999999 }
-    ensures decided { IfOk result (λ more. MatchBool more (DecidesOne (editing limits.now) board.old.history board.new.history) (board.new.history ≡ board.old.history ++ entry editor claim settled ∷ [])) }
-    ensures left { IfOk result (λ more. MatchBool more (undecided board.new.state < undecided board.old.state) (undecided board.new.state ≡ 0)) }
+    ensures decided { IfOk result (λ more. MatchBool more
+        (DecidesOne (editing limits.now) board.old.history board.new.history)
+        (board.new.history ≡ board.old.history ++ entry editor claim settled ∷ [])) }
+    ensures left { IfOk result (λ more. MatchBool more
+        (undecided board.new.state < undecided board.old.state)
+        (undecided board.new.state ≡ 0)) }
     ensures grown { weight board.new ≤ weight board.old + 2 }
-    ensures no_heavier { IfOk result (λ more. MatchBool more (weight board.new ≤ weight board.old) (weight board.new ≡ weight board.old + 1)) }
+    ensures no_heavier { IfOk result (λ more. MatchBool more
+        (weight board.new ≤ weight board.old)
+        (weight board.new ≡ weight board.old + 1)) }
     ensures idle { IsIdle board.new }
     ensures same { KeepsKeys board.old.state board.new.state }
     ensures begun { OnErr result (GivesUp (editing limits.now) board.old.history board.new.history) }

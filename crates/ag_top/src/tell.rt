@@ -14,8 +14,10 @@ use std::alloc::Global;
 pub fn tell<K: Sink>(alloc: Global, sink: &mut K, text: &[u8], status: Status) -> Done
     ensures ends { (result.status ≡ status) ⊎ (result.status ≡ statuses.WriteFault) }
     ensures written { result.status ≢ statuses.WriteFault → Grows (K.written sink.old) (K.written sink.new) text.now }
-    ensures partly { (status ≡ statuses.WriteFault → ⊥) → result.status ≡ statuses.WriteFault → Partly text.now (K.written sink.old) (K.written sink.new) }
-    ensures write { (status ≡ statuses.WriteFault → ⊥) → result.status ≡ statuses.WriteFault → Rose (K.faults sink.old) (K.faults sink.new) }
+    ensures partly { (status ≡ statuses.WriteFault → ⊥) → result.status ≡ statuses.WriteFault
+        → Partly text.now (K.written sink.old) (K.written sink.new) }
+    ensures write { (status ≡ statuses.WriteFault → ⊥) → result.status ≡ statuses.WriteFault
+        → Rose (K.faults sink.old) (K.faults sink.new) }
     ensures unfaulted { result.status ≢ statuses.WriteFault → K.faults sink.new ≡ K.faults sink.old }
     ensures never_falls { K.faults sink.old ≤ K.faults sink.new }
     ensures history { result.history.entries ≡ [] }

@@ -1,55 +1,71 @@
-use Rattle.std.proofs.Common.{◌⊎◌, ap, subst, ℕ, List, inl}
-use Rattle.std.proofs.Common as common
+use Rattle.std.proofs.Common.{◌≡◌, ◌⊎◌, List, ℕ, subst, inl, inr}
 use Rattle.ag_top.specs.declared.words.Order.{Order}
-use Rattle.ag_top.specs.Commands.{Grows}
-use Rattle.ag_top.specs.Outcome.{IsTextAnswer, IsTextRefused, IsTextCut, IsTextBroken, IsNothing}
-use Rattle.ag_top.specs.Printing.{IsTextPartlyPrinted}
+use Rattle.ag_top.specs.Files.{outside}
+use Rattle.ag_top.specs.Outcome.{IsFileAnswer, IsFileBroken, IsFileCut, IsFileRefused, IsNothing}
+use Rattle.ag_top.specs.Printing.{IsFilePartlyPrinted, IsFileUnprinted}
 use Rattle.ag_top.specs.Stages.{Partly}
-use Rattle.ag_top.specs.Words.{IsCheck, AsksFor}
-use Rattle.ag_top.proofs.Tops.{answer_of, refusal_of, unfinished_of, broken_of, is_no_fault, is_no_write_fault, usage_is_no_write_fault}
-use Rattle.ag_top.proofs.Prints.{too_long_of, too_long_broken, print_broken_of}
-use Rattle.ag_top.proofs.top.agree.Given as given
+use Rattle.ag_top.specs.Words.{AsksFor, source_name}
+use Rattle.ag_top.proofs.Tops.{unfinished_of, unless_source, usage_is_no_write_fault}
 use Rattle.ag_top.proofs.top.agree.Goals as goal
 
 pub returns-in_default-clause-broken : goal.returns-in_default-clause-broken
 returns-in_default-clause-broken g c = λ m.
-    inl (c.in_default.ensures, subst (λ (t : List ℕ). Partly t (g.K.Sink.written c.args.sink.now) (g.K.Sink.written c.tell.new.sink)) c.as_bytes.ensures.value (c.tell.ensures.partly usage_is_no_write_fault m), c.tell.ensures.history)
-
-pub returns-in-Err-TooLong-clause-refused : goal.returns-in-Err-TooLong-clause-refused
-returns-in-Err-TooLong-clause-refused g c = λ m.
-    too_long_of c.in-Some.order c.args.words.now _ c.tell-in-Err-TooLong.result.history.entries _ _ c.in-Some.ensures (c.in-Err-TooLong.ensures.too_long (ap common.Err c.in-Err-TooLong.field-0-is))
-    (subst (λ (t : List ℕ). Grows (g.K.Sink.written c.args.sink.now) (g.K.Sink.written c.tell-in-Err-TooLong.new.sink) t) c.as_bytes-in-Err-TooLong.ensures.value (c.tell-in-Err-TooLong.ensures.written (is_no_fault _ m))) c.tell-in-Err-TooLong.ensures.history
-
-pub returns-in-Err-TooLong-clause-broken : goal.returns-in-Err-TooLong-clause-broken
-returns-in-Err-TooLong-clause-broken g c = λ m.
-    too_long_broken c.in-Some.order c.args.words.now _ c.tell-in-Err-TooLong.result.history.entries _ _ c.in-Some.ensures (c.in-Err-TooLong.ensures.too_long (ap common.Err c.in-Err-TooLong.field-0-is))
-    (subst (λ (t : List ℕ). Partly t (g.K.Sink.written c.args.sink.now) (g.K.Sink.written c.tell-in-Err-TooLong.new.sink)) c.as_bytes-in-Err-TooLong.ensures.value (c.tell-in-Err-TooLong.ensures.partly is_no_write_fault m)) c.tell-in-Err-TooLong.ensures.history
-
--- the words are those of a check
-asks_check : (g : given.Over) (c : goal.After-drop-text-inside g) → IsCheck c.args.words.now
-asks_check g c = subst (λ (o : Order). AsksFor c.args.words.now o) c.in-Check.is c.in-Some.ensures
+    inl (c.in_default.ensures.asks, subst (λ (t : List ℕ). Partly t (g.K.Sink.written c.args.sink.now) (g.K.Sink.written c.tell.new.sink)) c.as_bytes.ensures.value (c.tell.ensures.partly usage_is_no_write_fault m), c.tell.ensures.history)
 
 pub returns-in-Check-clause-refused : goal.returns-in-Check-clause-refused
-returns-in-Check-clause-refused g c = λ m.
-    inl (refusal_of c.args.words.now _ c.in-Ok.text c.check_text.result.history.entries _ _ (asks_check g c) c.in-Ok.ensures.ok c.in-Ok.ensures.few
-    (subst (λ (t : List ℕ). IsTextRefused t c.check_text.result.history.entries (g.K.Sink.written c.args.sink.now) (g.K.Sink.written c.check_text.new.sink)) c.as_slice.ensures (c.check_text.ensures.refused m)))
+returns-in-Check-clause-refused g c = λ m. inl record {
+  name = c.in-Some.name.now;
+  command = subst (λ (o : Order). AsksFor c.args.words.now o c.in-Some.name.now) c.in-Check.is c.in-Some.ensures.asks;
+  file = subst (λ (n : List ℕ). IsFileRefused (outside (g.S.Source.left c.args.source.now) (g.F.Folder.files c.args.folder.now)) n c.check_once.result.history.entries (g.K.Sink.written c.args.sink.now) (g.K.Sink.written c.check_once.new.sink)) c.as_str-name.ensures (c.check_once.ensures.refused m);
+}
+
+pub returns-in-Check-clause-answer : goal.returns-in-Check-clause-answer
+returns-in-Check-clause-answer g c = λ m. inl record {
+  name = c.in-Some.name.now;
+  command = subst (λ (o : Order). AsksFor c.args.words.now o c.in-Some.name.now) c.in-Check.is c.in-Some.ensures.asks;
+  limits = c.usual.result;
+  usual = c.usual.ensures;
+  file = subst (λ (n : List ℕ). IsFileAnswer c.usual.result (outside (g.S.Source.left c.args.source.now) (g.F.Folder.files c.args.folder.now)) n c.check_once.result.history.entries c.check_once.result.status (g.K.Sink.written c.args.sink.now) (g.K.Sink.written c.check_once.new.sink)) c.as_str-name.ensures (c.check_once.ensures.answer m);
+}
+
+pub returns-in-Check-clause-folder_unread : goal.returns-in-Check-clause-folder_unread
+returns-in-Check-clause-folder_unread g c = λ never.
+    unless_source c.as_str-name.result.now
+    (λ other. never (c.in-Some.order, c.in-Some.name.now, subst (λ (n : List ℕ). n ≡ source_name → ⊥) c.as_str-name.ensures other, c.in-Some.ensures.asks))
+    c.check_once.ensures.folder_unread
+
+pub returns-in-Check-clause-broken : goal.returns-in-Check-clause-broken
+returns-in-Check-clause-broken g c = λ m. inr (inl record {
+  name = c.in-Some.name.now;
+  command = subst (λ (o : Order). AsksFor c.args.words.now o c.in-Some.name.now) c.in-Check.is c.in-Some.ensures.asks;
+  limits = c.usual.result;
+  usual = c.usual.ensures;
+  file = subst (λ (n : List ℕ). IsFileBroken c.usual.result (outside (g.S.Source.left c.args.source.now) (g.F.Folder.files c.args.folder.now)) n c.check_once.result.history.entries (g.K.Sink.written c.args.sink.now) (g.K.Sink.written c.check_once.new.sink)) c.as_str-name.ensures (c.check_once.ensures.broken m);
+})
 
 pub returns-in-Check-clause-memory : goal.returns-in-Check-clause-memory
 returns-in-Check-clause-memory g c = λ m.
-    unfinished_of c.usual.result c.usual.ensures c.args.words.now _ c.in-Ok.text c.check_text.result.history.entries _ _ (asks_check g c) c.in-Ok.ensures.ok c.in-Ok.ensures.few
-    (subst (λ (t : List ℕ). IsNothing c.check_text.result.history.entries (g.K.Sink.written c.args.sink.now) (g.K.Sink.written c.check_text.new.sink) ⊎ IsTextCut c.usual.result t c.check_text.result.history.entries (g.K.Sink.written c.args.sink.now) (g.K.Sink.written c.check_text.new.sink)) c.as_slice.ensures (c.check_text.ensures.memory m))
+    unfinished_of c.usual.result c.usual.ensures c.args.words.now _ c.in-Some.name.now c.check_once.result.history.entries _ _
+    (subst (λ (o : Order). AsksFor c.args.words.now o c.in-Some.name.now) c.in-Check.is c.in-Some.ensures.asks)
+    (subst (λ (n : List ℕ). IsNothing c.check_once.result.history.entries (g.K.Sink.written c.args.sink.now) (g.K.Sink.written c.check_once.new.sink) ⊎ IsFileCut c.usual.result (outside (g.S.Source.left c.args.source.now) (g.F.Folder.files c.args.folder.now)) n c.check_once.result.history.entries (g.K.Sink.written c.args.sink.now) (g.K.Sink.written c.check_once.new.sink)) c.as_str-name.ensures (c.check_once.ensures.memory m))
 
-pub returns-in-Check-clause-broken : goal.returns-in-Check-clause-broken
-returns-in-Check-clause-broken g c = λ m.
-    broken_of c.usual.result c.usual.ensures c.args.words.now _ c.in-Ok.text c.check_text.result.history.entries _ _ (asks_check g c) c.in-Ok.ensures.ok c.in-Ok.ensures.few
-    (subst (λ (t : List ℕ). IsTextBroken c.usual.result t c.check_text.result.history.entries (g.K.Sink.written c.args.sink.now) (g.K.Sink.written c.check_text.new.sink)) c.as_slice.ensures (c.check_text.ensures.broken m))
+pub returns-in-Print-clause-refused : goal.returns-in-Print-clause-refused
+returns-in-Print-clause-refused g c = λ m. inr record {
+  name = c.in-Some.name.now;
+  command = subst (λ (o : Order). AsksFor c.args.words.now o c.in-Some.name.now) c.in-Print.is c.in-Some.ensures.asks;
+  file = subst (λ (n : List ℕ). IsFileUnprinted (outside (g.S.Source.left c.args.source.now) (g.F.Folder.files c.args.folder.now)) n c.print_once.result.history.entries (g.K.Sink.written c.args.sink.now) (g.K.Sink.written c.print_once.new.sink)) c.as_str-name.ensures (c.print_once.ensures.refused m);
+}
 
-pub returns-clause-broken : goal.returns-clause-broken
-returns-clause-broken g c = λ m.
-    print_broken_of c.args.words.now _ c.in-Ok.text c.print_text.result.history.entries _ _ (subst (λ (o : Order). AsksFor c.args.words.now o) c.in-Print.is c.in-Some.ensures) c.in-Ok.ensures.ok c.in-Ok.ensures.few
-    (subst (λ (t : List ℕ). IsTextPartlyPrinted t (g.K.Sink.written c.args.sink.now) (g.K.Sink.written c.print_text.new.sink)) c.as_slice-in-Print.ensures (c.print_text.ensures.broken m)) c.print_text.ensures.history
+pub returns-in-Print-clause-folder_unread : goal.returns-in-Print-clause-folder_unread
+returns-in-Print-clause-folder_unread g c = λ never.
+    unless_source c.as_str-name.result.now
+    (λ other. never (c.in-Some.order, c.in-Some.name.now, subst (λ (n : List ℕ). n ≡ source_name → ⊥) c.as_str-name.ensures other, c.in-Some.ensures.asks))
+    c.print_once.ensures.folder_unread
 
-pub returns-in-Check-clause-answer : goal.returns-in-Check-clause-answer
-returns-in-Check-clause-answer g c = λ m.
-    inl (answer_of c.usual.result c.usual.ensures c.args.words.now _ c.in-Ok.text c.check_text.result.history.entries c.check_text.result.status _ _ (asks_check g c) c.in-Ok.ensures.ok c.in-Ok.ensures.few
-    (subst (λ (t : List ℕ). IsTextAnswer c.usual.result t c.check_text.result.history.entries c.check_text.result.status (g.K.Sink.written c.args.sink.now) (g.K.Sink.written c.check_text.new.sink)) c.as_slice.ensures (c.check_text.ensures.answer m)))
+pub returns-in-Print-clause-broken : goal.returns-in-Print-clause-broken
+returns-in-Print-clause-broken g c = λ m. inr (inr record {
+  name = c.in-Some.name.now;
+  command = subst (λ (o : Order). AsksFor c.args.words.now o c.in-Some.name.now) c.in-Print.is c.in-Some.ensures.asks;
+  file = subst (λ (n : List ℕ). IsFilePartlyPrinted (outside (g.S.Source.left c.args.source.now) (g.F.Folder.files c.args.folder.now)) n (g.K.Sink.written c.args.sink.now) (g.K.Sink.written c.print_once.new.sink)) c.as_str-name.ensures (c.print_once.ensures.broken m);
+  empty = c.print_once.ensures.history;
+})

@@ -2,7 +2,7 @@ use Rattle.std.proofs.Common.{Err, subst}
 use Rattle.ag_small.specs.declared.package.ReadFault.{ReadFault}
 use Rattle.ag_small.specs.Reads.{IsReadUnlessMemory}
 use Rattle.ag_top.proofs.Tops.{end_of_text}
-use Rattle.ag_top.proofs.top.check_text.Goals as goal
+use Rattle.ag_top.proofs.text.check_text.Goals as goal
 
 pub refuse_text-requires-clause-none : goal.refuse_text-requires-clause-none
 refuse_text-requires-clause-none g c = λ p r. subst (λ (e : ReadFault). IsReadUnlessMemory (Err e) p) c.in-Err-NotBuilt.field-0-is (c.in-Err-NotBuilt.ensures.only p r)
